@@ -1,0 +1,10 @@
+pub mod Values
+pub mod Maps
+pub mod Catalogs
+pub mod Databases
+pub mod Writes
+pub mod Works
+pub mod References
+pub mod Names
+pub mod Setup
+pub mod Scripts

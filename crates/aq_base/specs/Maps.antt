@@ -1,0 +1,12 @@
+-- Finite maps from numbers, as lists of entries whose keys rise.
+use Rattle.std.specs.Prelude.{ℕ, List, Option}
+use Rattle.std.specs.Ordering.{nat_cmp}
+use Rattle.std.specs.FinMap.Entries.{find, put}
+
+-- what the map has at a number
+abbrev pub at : {X : Type 0} → ℕ → List (ℕ × X) → Option X
+at n entries = find nat_cmp n entries
+
+-- the map with a value at a number, and the rest as it was
+abbrev pub with_at : {X : Type 0} → ℕ → X → List (ℕ × X) → List (ℕ × X)
+with_at n x entries = put nat_cmp n x entries

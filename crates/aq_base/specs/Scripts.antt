@@ -1,0 +1,86 @@
+-- What a script of the first language keeps beside its form: names and limits.
+use Rattle.std.specs.Prelude.{ℕ, ◌+◌, Bool, true, false, ◌&&◌, ◌==◌, List, [], ◌∷◌, length, map, Option, Some, None, is_none, is_some, count_by, sum_by, nat_lt, nat_le, slice_get}
+use Rattle.std.specs.List.{list_all}
+use Rattle.aq_base.specs.Values.{Row}
+use Rattle.aq_base.specs.Names.{Text, is_name, is_short, all_differ, primary_key_name, foreign_key_name}
+use Rattle.aq_base.specs.Catalogs.{Catalog}
+use Rattle.aq_base.specs.Setup.{no_tables, table_number, referred, defines, catalog_of}
+use Rattle.aq_base.specs.declared.catalog.Table.{Table}
+use Rattle.aq_base.specs.declared.script.ColumnConstraint.{ColumnConstraint}
+use Rattle.aq_base.specs.declared.script.ColumnConstraint.TheVariants.{PrimaryKey, References}
+use Rattle.aq_base.specs.declared.script.ColumnItem.{ColumnItem}
+use Rattle.aq_base.specs.declared.script.Statement.{Statement}
+use Rattle.aq_base.specs.declared.script.Statement.TheVariants.{CreateTable, Insert}
+use Rattle.aq_base.specs.declared.script.Placed.{Placed}
+use Rattle.aq_base.specs.declared.script.SessionText.{SessionText}
+use Rattle.aq_base.specs.declared.script.Script.{Script}
+
+abbrev pub is_primary : Option ColumnConstraint → Bool
+is_primary None = false
+is_primary (Some PrimaryKey) = true
+is_primary (Some (References parent)) = false
+
+abbrev pub is_reference : Option ColumnConstraint → Bool
+is_reference None = false
+is_reference (Some PrimaryKey) = false
+is_reference (Some (References parent)) = true
+
+-- a constraint has a name that is short enough, and REFERENCES an earlier table with a primary key
+abbrev pub constraint_fits : Catalog → Text → Text → Option ColumnConstraint → Bool
+constraint_fits cat table col None = true
+constraint_fits cat table col (Some PrimaryKey) = is_short (primary_key_name table)
+constraint_fits cat table col (Some (References parent)) =
+    is_name parent && is_some (referred parent cat) && is_short (foreign_key_name table col)
+
+abbrev pub column_fits : Catalog → Text → ColumnItem → Bool
+column_fits cat table item = is_name item.name && constraint_fits cat table item.name item.constraint
+
+-- the table may be created after what is there: 64 tables, 32 columns and 128 foreign keys at the most, and one primary key
+abbrev pub can_create : Catalog → Text → List ColumnItem → Bool
+can_create cat table items =
+    is_name table && is_none (table_number table cat) && nat_lt (length cat.tables) 64 && nat_le (length items) 32
+    && all_differ (map (λ item. item.name) items) && list_all (column_fits cat table) items
+    && nat_le (count_by (λ item. is_primary item.constraint) items) 1
+    && nat_le (length cat.fks + count_by (λ item. is_reference item.constraint) items) 128
+
+abbrev pub can_define : Catalog → Statement → Bool
+can_define cat (CreateTable table items) = can_create cat table items
+can_define cat (Insert table rows) = false
+
+abbrev pub can_set_up : Catalog → List Placed → Bool
+can_set_up cat [] = true
+can_set_up cat (placed ∷ others) = can_define cat placed.statement && can_set_up (defines placed.statement cat) others
+
+-- each row gives one value to each column
+abbrev pub rows_fit : Option Table → List Row → Bool
+rows_fit None rows = false
+rows_fit (Some table) rows = list_all (λ (row : Row). length row == length table.cols) rows
+
+abbrev pub table_named : Catalog → Text → Option Table
+table_named cat name = on_number cat (table_number name cat)
+  where
+    on_number : Catalog → Option ℕ → Option Table
+    on_number cat None = None
+    on_number cat (Some number) = slice_get cat.tables number
+
+abbrev pub can_run : Catalog → Statement → Bool
+can_run cat (CreateTable table items) = false
+can_run cat (Insert table rows) = is_name table && rows_fit (table_named cat table) rows
+
+abbrev pub session_fits : Catalog → SessionText → Bool
+session_fits cat session = is_name session.name && list_all (λ placed. can_run cat placed.statement) session.statements
+
+abbrev pub rows_in : Statement → ℕ
+rows_in (CreateTable table items) = 0
+rows_in (Insert table rows) = length rows
+
+abbrev pub rows_in_session : SessionText → ℕ
+rows_in_session session = sum_by (λ placed. rows_in placed.statement) session.statements
+
+-- one session, 65,536 statements and 1,000 rows of values at the most
+abbrev pub fits_first_language : Script → Bool
+fits_first_language script =
+    can_set_up no_tables script.setup && list_all (session_fits (catalog_of script)) script.sessions
+    && nat_le (length script.sessions) 1 && is_none script.schedule
+    && nat_le (length script.setup + sum_by (λ session. length session.statements) script.sessions) 65536
+    && nat_le (sum_by rows_in_session script.sessions) 1000

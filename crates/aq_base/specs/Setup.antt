@@ -1,0 +1,116 @@
+-- What the setup statements of a script make, and what its sessions' statements say with numbers for names.
+use Rattle.std.specs.Prelude.{ℕ, ◌+◌, Bool, true, false, ◌==◌, List, [], ◌∷◌, ◌++◌, length, map, Option, Some, None, find, position, unwrap_or, option_map, option_and_then}
+use Rattle.std.specs.List.{filter_map}
+use Rattle.aq_base.specs.Values.{Row}
+use Rattle.aq_base.specs.Names.{Text, same_text, primary_key_name, foreign_key_name}
+use Rattle.aq_base.specs.Catalogs.{Catalog}
+use Rattle.aq_base.specs.declared.catalog.Column.{Column}
+use Rattle.aq_base.specs.declared.catalog.Table.{Table}
+use Rattle.aq_base.specs.declared.catalog.UniqueKey.{UniqueKey}
+use Rattle.aq_base.specs.declared.catalog.ForeignKey.{ForeignKey}
+use Rattle.aq_base.specs.declared.catalog.Trigger.{Trigger}
+use Rattle.aq_base.specs.declared.catalog.Op.TheVariants.{Insert as On_insert, Update as On_update}
+use Rattle.aq_base.specs.declared.catalog.Does.TheVariants.{Check}
+use Rattle.aq_base.specs.declared.script.ColumnConstraint.{ColumnConstraint}
+use Rattle.aq_base.specs.declared.script.ColumnConstraint.TheVariants.{PrimaryKey, References}
+use Rattle.aq_base.specs.declared.script.ColumnItem.{ColumnItem}
+use Rattle.aq_base.specs.declared.script.Statement.{Statement}
+use Rattle.aq_base.specs.declared.script.Statement.TheVariants.{CreateTable, Insert}
+use Rattle.aq_base.specs.declared.script.Placed.{Placed}
+use Rattle.aq_base.specs.declared.script.SessionText.{SessionText}
+use Rattle.aq_base.specs.declared.script.Script.{Script}
+
+abbrev pub no_tables : Catalog
+no_tables = record { tables = []; keys = []; fks = []; triggers = [] }
+
+-- the number of the table with a name
+abbrev pub table_number : Text → Catalog → Option ℕ
+table_number name cat = position (λ table. same_text table.name name) cat.tables
+
+-- the columns of a table's primary key
+abbrev pub primary_cols : ℕ → Catalog → Option (List ℕ)
+primary_cols table cat = option_map (λ k. k.cols) (find (λ k. k.table == table) cat.keys)
+
+-- what REFERENCES of a table refers to: its number, and the columns of its primary key
+abbrev pub referred : Text → Catalog → Option (ℕ × List ℕ)
+referred parent cat =
+    option_and_then (λ number. option_map (λ cols. (number, cols)) (primary_cols number cat)) (table_number parent cat)
+
+abbrev pub column_of : ColumnItem → Column
+column_of item = record { name = item.name; kind = item.kind }
+
+abbrev pub adds_table : Text → List ColumnItem → Catalog → Catalog
+adds_table name items cat = record cat { tables = cat.tables ++ record { name = name; cols = map column_of items } ∷ [] }
+
+-- the primary key that a column's constraint makes
+abbrev pub adds_key : ℕ → Text → ℕ → Option ColumnConstraint → Catalog → Catalog
+adds_key number table col None cat = cat
+adds_key number table col (Some PrimaryKey) cat =
+    record cat { keys = cat.keys ++ record { name = primary_key_name table; table = number; cols = col ∷ [] } ∷ [] }
+adds_key number table col (Some (References parent)) cat = cat
+
+abbrev pub adds_keys : ℕ → Text → ℕ → List ColumnItem → Catalog → Catalog
+adds_keys number table col [] cat = cat
+adds_keys number table col (item ∷ items) cat = adds_keys number table (col + 1) items (adds_key number table col item.constraint cat)
+
+-- the foreign key, and the trigger that checks the rows of its child table
+abbrev pub adds_foreign_key : ℕ → Text → ℕ → Text → Option (ℕ × List ℕ) → Catalog → Catalog
+adds_foreign_key number table col name None cat = cat
+adds_foreign_key number table col name (Some parent) cat =
+    record cat {
+      fks = cat.fks ++ record { name = foreign_key_name table name; child = number; child_cols = col ∷ []; parent = parent.0; parent_cols = parent.1 } ∷ [];
+      triggers = cat.triggers ++ record { table = number; ops = On_insert ∷ On_update ∷ []; does = Check (length cat.fks) } ∷ [];
+    }
+
+-- the foreign key that a column's constraint makes
+abbrev pub adds_reference : ℕ → Text → ℕ → Text → Option ColumnConstraint → Catalog → Catalog
+adds_reference number table col name None cat = cat
+adds_reference number table col name (Some PrimaryKey) cat = cat
+adds_reference number table col name (Some (References parent)) cat = adds_foreign_key number table col name (referred parent cat) cat
+
+abbrev pub adds_references : ℕ → Text → ℕ → List ColumnItem → Catalog → Catalog
+adds_references number table col [] cat = cat
+adds_references number table col (item ∷ items) cat =
+    adds_references number table (col + 1) items (adds_reference number table col item.name item.constraint cat)
+
+-- the table, then its keys, then its foreign keys
+abbrev pub creates : Text → List ColumnItem → Catalog → Catalog
+creates table items cat =
+    adds_references (length cat.tables) table 0 items (adds_keys (length cat.tables) table 0 items (adds_table table items cat))
+
+abbrev pub defines : Statement → Catalog → Catalog
+defines (CreateTable table items) cat = creates table items cat
+defines (Insert table rows) cat = cat
+
+abbrev pub setup_from : Catalog → List Placed → Catalog
+setup_from cat [] = cat
+setup_from cat (placed ∷ others) = setup_from (defines placed.statement cat) others
+
+abbrev pub catalog_of : Script → Catalog
+catalog_of script = setup_from no_tables script.setup
+
+-- a statement of a session, with numbers for names
+pub data Bound : Type 0 where
+  Inserts : (table : ℕ) → (rows : List Row) → Bound
+
+-- what a statement says; none where it is no statement of a session, or its table isn't there
+abbrev pub bound : Catalog → Statement → Option Bound
+bound cat (CreateTable table items) = None
+bound cat (Insert table rows) = option_map (λ number. Inserts number rows) (table_number table cat)
+
+abbrev pub bound_statements : Catalog → SessionText → List Bound
+bound_statements cat session = filter_map (λ placed. bound cat placed.statement) session.statements
+
+-- a script as it is run
+pub record Program : Type 0 where
+  pub catalog : Catalog
+  pub names : List Text
+  pub sessions : List (List Bound)
+
+abbrev pub program_of : Script → Program
+program_of script =
+    record {
+      catalog = catalog_of script;
+      names = map (λ session. session.name) script.sessions;
+      sessions = map (bound_statements (catalog_of script)) script.sessions;
+    }

@@ -1,0 +1,60 @@
+use crate::list::List;
+use crate::numbers::{ColNo, FkNo, TabNo};
+use crate::script::Kind;
+use crate::text::TextVal;
+
+/// A column: its name and the kind of its values.
+#[derive(Debug, Drop)]
+pub struct Column {
+    pub name: TextVal,
+    pub kind: Kind,
+}
+
+/// A table: its name and its columns in order.
+#[derive(Debug, Drop)]
+pub struct Table {
+    pub name: TextVal,
+    pub cols: List<Column>,
+}
+
+/// A unique key: no two rows of the table agree on these columns (PostgreSQL manual, page CREATE TABLE, PRIMARY KEY).
+#[derive(Debug, Drop)]
+pub struct UniqueKey {
+    pub name: TextVal,
+    pub table: TabNo,
+    pub cols: List<ColNo>,
+}
+
+/// A foreign key: each row of the child table has a row of the parent table with the same key
+/// (PostgreSQL manual, page CREATE TABLE, REFERENCES).
+#[derive(Debug, Drop)]
+pub struct ForeignKey {
+    pub name: TextVal,
+    pub child: TabNo,
+    pub child_cols: List<ColNo>,
+    pub parent: TabNo,
+    pub parent_cols: List<ColNo>,
+}
+
+/// What changes a row.
+#[derive(Clone, Copy, Debug, PartialEq, Eq)]
+pub enum Op {
+    Insert,
+    Update,
+    Delete,
+}
+
+/// What a trigger does when its event fires (PostgreSQL source, ri_triggers.c).
+#[derive(Clone, Copy, Debug, PartialEq, Eq)]
+pub enum Does {
+    /// Looks for the parent of the child row.
+    Check(FkNo),
+}
+
+/// A trigger: its table, the changes that queue its events, and what an event does.
+#[derive(Debug, Drop)]
+pub struct Trigger {
+    pub table: TabNo,
+    pub ops: List<Op>,
+    pub does: Does,
+}

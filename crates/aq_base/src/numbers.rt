@@ -1,0 +1,123 @@
+ghost use Rattle.std.specs.Prelude.{◌≡◌};
+
+use std::marker::Model;
+
+/// A table's number in creation order, from 0.
+#[derive(Clone, Copy, Debug, PartialEq, Eq, PartialOrd, Ord, Hash)]
+pub struct TabNo {
+    number: u16,
+}
+
+impl Model for TabNo {
+    ghost use Rattle.std.specs.Prelude.{ℕ};
+
+    ghost Value = { ℕ };
+
+    ghost view = { λ n. n.number };
+
+    ghost inverse = { λ n. record { number = n } };
+}
+
+impl TabNo {
+    pub fn new(number: u16) -> TabNo
+        ensures { result ≡ number }
+    {
+        TabNo { number }
+    }
+
+    pub fn get(self) -> u16
+        ensures { result ≡ self }
+    {
+        self.number
+    }
+}
+
+/// A column's number in its table, from 0.
+#[derive(Clone, Copy, Debug, PartialEq, Eq, PartialOrd, Ord, Hash)]
+pub struct ColNo {
+    number: u16,
+}
+
+impl Model for ColNo {
+    ghost use Rattle.std.specs.Prelude.{ℕ};
+
+    ghost Value = { ℕ };
+
+    ghost view = { λ n. n.number };
+
+    ghost inverse = { λ n. record { number = n } };
+}
+
+impl ColNo {
+    pub fn new(number: u16) -> ColNo
+        ensures { result ≡ number }
+    {
+        ColNo { number }
+    }
+
+    pub fn get(self) -> u16
+        ensures { result ≡ self }
+    {
+        self.number
+    }
+}
+
+/// A foreign key's number in creation order, from 0.
+#[derive(Clone, Copy, Debug, PartialEq, Eq, PartialOrd, Ord, Hash)]
+pub struct FkNo {
+    number: u16,
+}
+
+impl Model for FkNo {
+    ghost use Rattle.std.specs.Prelude.{ℕ};
+
+    ghost Value = { ℕ };
+
+    ghost view = { λ n. n.number };
+
+    ghost inverse = { λ n. record { number = n } };
+}
+
+impl FkNo {
+    pub fn new(number: u16) -> FkNo
+        ensures { result ≡ number }
+    {
+        FkNo { number }
+    }
+
+    pub fn get(self) -> u16
+        ensures { result ≡ self }
+    {
+        self.number
+    }
+}
+
+/// A row's number: drawn from one counter at each inserted row, from 1, and never used again.
+#[derive(Clone, Copy, Debug, PartialEq, Eq, PartialOrd, Ord, Hash)]
+pub struct RowNo {
+    number: u64,
+}
+
+impl Model for RowNo {
+    ghost use Rattle.std.specs.Prelude.{ℕ};
+
+    ghost Value = { ℕ };
+
+    ghost view = { λ n. n.number };
+
+    ghost inverse = { λ n. record { number = n } };
+}
+
+impl RowNo {
+    pub fn new(number: u64) -> RowNo
+        ensures { result ≡ number }
+    {
+        RowNo { number }
+    }
+
+    pub fn get(self) -> u64
+        ensures { result ≡ self }
+    {
+        self.number
+    }
+}

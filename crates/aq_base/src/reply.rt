@@ -1,0 +1,13 @@
+use crate::fault::Code;
+use crate::text::TextVal;
+
+/// One line of a statement's reply, as data.
+#[derive(Debug, Drop)]
+pub enum ReplyLine {
+    /// The tag of a statement that succeeded, as `INSERT 0 1`.
+    Tag(TextVal),
+    /// An error with its code and text.
+    Error { code: Code, text: TextVal },
+    /// The detail of the error before it.
+    Detail(TextVal),
+}
