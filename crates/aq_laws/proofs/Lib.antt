@@ -1,0 +1,4 @@
+pub mod Lists
+pub mod Sessions
+pub mod Finite
+pub mod Default
