@@ -1,33 +1,31 @@
 -- Every run is finite.
 use Rattle.std.proofs.Common.{◌≡◌, ℕ, zero, suc, ◌+◌, ◌*◌, ◌<◌, ◌≤◌, true, false, cond, List, [], ◌∷◌, length, map, Option, Some, None, option_and_then, slice_get, slice_set, slice_index_or, sum_by, refl, sym, subst, ap, arith, length-append}
+use Rattle.std.proofs.lemmas.List.{length-map}
 use Rattle.std.proofs.lemmas.List.Sums.{sum_by-cons}
 use Rattle.aq_base.specs.Values.{Row}
 use Rattle.aq_base.specs.Catalogs.{Catalog}
-use Rattle.aq_base.specs.Works.{Event, Opened, Work}
+use Rattle.aq_base.specs.Works.{Event, Opened}
 use Rattle.aq_base.specs.Writes.{Writes}
 use Rattle.aq_base.specs.Setup.{Program}
 use Rattle.aq_base.specs.declared.catalog.Op.{Op}
 use Rattle.aq_base.specs.declared.catalog.Trigger.{Trigger}
-use Rattle.aq_base.specs.declared.catalog.ForeignKey.{ForeignKey}
 use Rattle.aq_base.specs.declared.catalog.Op.TheVariants.{Insert}
-use Rattle.aq_base.specs.declared.catalog.Does.TheVariants.{Check}
 use Rattle.aq_base.specs.declared.script.Bound.{Bound}
 use Rattle.aq_base.specs.declared.script.Bound.TheVariants.{InsertRows}
 use Rattle.aq_outcomes.specs.Faults.{Fault}
 use Rattle.aq_outcomes.specs.Rows.{fires_on, firing_from, insert_events, insert_fault}
-use Rattle.aq_outcomes.specs.References.{Checked, child_check}
-use Rattle.aq_outcomes.specs.References.Checked.{Passed, Skipped, Violated}
 use Rattle.aq_run.specs.States.{Operation, Target, Answer, Task, Transaction, Session, World, State, opening, nobody, session_at, latest_view}
 use Rattle.aq_run.specs.States.Operation.{Inserting}
 use Rattle.aq_run.specs.States.Target.{New_row}
 use Rattle.aq_run.specs.States.Task.{Rows, Rounds, Committing}
 use Rattle.aq_run.specs.Effects.{on_top, with_events, effect, effects}
-use Rattle.aq_run.specs.Effects.Effect.{Finishes}
-use Rattle.aq_run.specs.Steps.{Plan, dropped, answer_of, statement_at, task_plan, start_plan, rows_plan, insert_plan, on_level, level_plan, event_plan, on_trigger, on_fk, check_plan, effects_of_plan, effects_of, plan_of, step, is_enabled}
-use Rattle.aq_run.specs.Steps.Plan.{Does_all, Fails}
+use Rattle.aq_run.specs.Steps.{Plan, dropped, answer_of, statement_at, task_plan, start_plan, rows_plan, insert_plan, on_level, level_plan, event_plan, effects_of_plan, effects_of, plan_of, step, is_enabled}
+use Rattle.aq_run.specs.Steps.Plan.{Fails}
 use Rattle.aq_run.specs.Runs.{Schedule, Can_run_from}
 use Rattle.aq_laws.specs.Finite.{row_steps, statement_steps, task_steps, level_steps, session_steps, sessions_steps, steps_left, Runs_are_finite}
 use Rattle.aq_laws.proofs.Lists.{sum_by-drop}
+use Rattle.aq_laws.proofs.Events.{Ends_event, Ends_event-event_plan}
+use Rattle.aq_laws.proofs.Events.Ends_event.{Done, Refused}
 use Rattle.aq_laws.proofs.Sessions.{Can_step-enabled}
 
 -- a change queues no more events than there are triggers
@@ -37,33 +35,10 @@ length_firing number table op (trigger ∷ triggers) =
     let rest = length_firing (number + 1) table op triggers in
     elim (fires_on table op trigger) as (λ b. length (cond b (number ∷ firing_from (number + 1) table op triggers) (firing_from (number + 1) table op triggers)) ≤ suc (length triggers)) [ true ↦ omega arith | false ↦ omega arith ]
 
--- what an event's step may be
-data Ends_event : Plan → Type 0 where
-  finished : Ends_event (Does_all (Finishes ∷ []))
-  refused : (fault : Fault) → Ends_event (Fails fault)
-
-ends_check : (checked : Checked) → Ends_event (check_plan checked)
-ends_check Passed = finished
-ends_check Skipped = finished
-ends_check (Violated fault) = refused fault
-
-ends_fk : (world : World) (work : Work) (event : Event) (fk : Option ForeignKey) → Ends_event (on_fk world work event fk)
-ends_fk world work event None = finished
-ends_fk world work event (Some fk) = ends_check (child_check fk event work.writes (latest_view world work))
-
-ends_trigger : (cat : Catalog) (world : World) (work : Work) (event : Event) (trigger : Option Trigger) → Ends_event (on_trigger cat world work event trigger)
-ends_trigger cat world work event None = finished
-ends_trigger cat world work event (Some trigger) =
-    elim trigger.does as (λ d. Ends_event (on_trigger cat world work event (Some (record trigger { does = d })))) [ Check n ↦ ends_fk world work event (slice_get cat.fks n) ]
-
 -- the events that a row queues go to the innermost level
 levels_with_events : (events : List Event) (opened : List Opened) → sum_by level_steps (on_top (with_events events) opened) ≤ sum_by level_steps opened + 2 * length events
 levels_with_events events [] = omega arith
 levels_with_events events (level ∷ levels) = rw (sum_by-cons level_steps (with_events events level) levels, sum_by-cons level_steps level levels, length-append level.queued events) (omega arith)
-
-length_map : {A B : Type 0} (f : A → B) (xs : List A) → length (map f xs) ≡ length xs
-length_map f [] = refl
-length_map f (x ∷ xs) = ap suc (length_map f xs)
 
 task_costs : (cat : Catalog) (task : Task) → 1 ≤ task_steps cat task
 task_costs cat (Rows operation left done) = omega arith
@@ -83,7 +58,7 @@ module _ (cat : Catalog) (world : World) (s : ℕ) (statements : List Bound) whe
   unfolding effect
   start_falls next transaction None e = omega arith
   start_falls next transaction (Some (InsertRows table rows)) e =
-      let same = length_map New_row rows in
+      let same = length-map rows New_row in
       let products : length (map New_row rows) * row_steps cat ≡ length rows * row_steps cat = ap (λ n. n * row_steps cat) same in
       omega (arith, sum_by-drop (statement_steps cat) statements next (InsertRows table rows) e)
 
@@ -100,7 +75,7 @@ module _ (cat : Catalog) (world : World) (s : ℕ) (statements : List Bound) whe
   unfolding effect
   insert_falls next t table values left count below None =
       let events : List Event = insert_events cat table (world.rows + 1) (world.writes + 1) values in
-      let few : length events ≤ length cat.triggers = rw length_map (length_firing 0 table Insert cat.triggers) in
+      let few : length events ≤ length cat.triggers = rw length-map (length_firing 0 table Insert cat.triggers) in
       let levels : sum_by level_steps (on_top (with_events events) t.work.opened) ≤ sum_by level_steps t.work.opened + 2 * length events = levels_with_events events t.work.opened in
       omega (arith, sum_by-cons (task_steps cat) (Rows (Inserting table) (New_row values ∷ left) count) below, sum_by-cons (task_steps cat) (Rows (Inserting table) left (count + 1)) below)
   insert_falls next t table values left count below (Some fault) = fails_falls next (Some t) (Rows (Inserting table) (New_row values ∷ left) count) below fault
@@ -117,9 +92,9 @@ module _ (cat : Catalog) (world : World) (s : ℕ) (statements : List Bound) whe
   ended_event_falls : (next : ℕ) (writes : Writes) (queued round : List Event) (event : Event) (levels : List Opened) (task : Task) (below : List Task) (plan : Plan)
       → Ends_event plan → Falls (going next (Some (record { work = record { writes = writes; opened = record { queued = queued; round = event ∷ round } ∷ levels } })) (task ∷ below)) plan
   unfolding effect
-  ended_event_falls next writes queued round event levels task below plan finished =
+  ended_event_falls next writes queued round event levels task below plan Done =
       omega (arith, sum_by-cons level_steps (record { queued = queued; round = event ∷ round }) levels, sum_by-cons level_steps (record { queued = queued; round = round }) levels)
-  ended_event_falls next writes queued round event levels task below plan (refused fault) =
+  ended_event_falls next writes queued round event levels task below plan (Refused fault) =
       fails_falls next (Some (record { work = record { writes = writes; opened = record { queued = queued; round = event ∷ round } ∷ levels } })) task below fault
 
   level_falls : (next : ℕ) (writes : Writes) (queued round : List Event) (levels : List Opened) (answer : Answer) (below : List Task)
@@ -129,7 +104,7 @@ module _ (cat : Catalog) (world : World) (s : ℕ) (statements : List Bound) whe
   level_falls next writes queued (event ∷ round) levels answer below =
       ended_event_falls next writes queued round event levels (Rounds answer) below
       (event_plan cat world (record { writes = writes; opened = record { queued = queued; round = event ∷ round } ∷ levels }) event)
-      (ends_trigger cat world (record { writes = writes; opened = record { queued = queued; round = event ∷ round } ∷ levels }) event (slice_get cat.triggers event.trigger))
+      (Ends_event-event_plan cat world (record { writes = writes; opened = record { queued = queued; round = event ∷ round } ∷ levels }) event)
   level_falls next writes (event ∷ queued) [] levels answer below =
       omega (arith, sum_by-cons level_steps (record { queued = event ∷ queued; round = [] }) levels, sum_by-cons level_steps (record { queued = []; round = event ∷ queued }) levels)
   level_falls next writes [] [] levels answer below =

@@ -1,2 +1,3 @@
+pub mod Committed
 pub mod Finite
 pub mod Default
