@@ -9,7 +9,7 @@ use Rattle.aq_run.specs.States.{Task, Transaction, Session, State, opening}
 use Rattle.aq_run.specs.States.Task.{Rows, Rounds, Committing}
 use Rattle.aq_run.specs.Runs.{Schedule, Is_schedule}
 
--- Each number is a bound: of the steps that are still to come because of the thing.
+-- Each number bounds the steps that are still to come because of what it is said of.
 
 -- a row to be inserted: its own step, and two for each trigger whose event it may queue
 abbrev pub row_steps : Catalog → ℕ
@@ -19,7 +19,7 @@ row_steps cat = 1 + 2 * length cat.triggers
 abbrev pub statement_steps : Catalog → Bound → ℕ
 statement_steps cat (InsertRows table rows) = 4 + length rows * row_steps cat
 
--- what is in progress
+-- what is in progress: the rows that are left, and of the end of the rows, the close of the level and the commit those that are to come
 abbrev pub task_steps : Catalog → Task → ℕ
 task_steps cat (Rows operation left done) = 3 + length left * row_steps cat
 task_steps cat (Rounds answer) = 2
