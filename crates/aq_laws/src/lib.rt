@@ -5,8 +5,8 @@ ghost use Rattle.aq_laws.specs.Committed.{Committed_databases_stand};
 ghost use Rattle.aq_laws.specs.Finite.{Runs_are_finite};
 ghost use Rattle.aq_laws.specs.Default.{Default_schedule_is_unique, Default_schedule_exists};
 
-/// With one session, at each moment of each run, every committed database has a parent for each reference, and no
-/// two rows of a table with one unique key.
+/// With one session, at each moment of each run: in every committed database each reference has its parent row, and no
+/// two rows of a table have the same unique key.
 pub fn committed_databases_stand()
     ensures { Committed_databases_stand }
 {}
