@@ -1,0 +1,6 @@
+//! `aqueue`: runs a script of sessions over tables in memory.
+#![tactic(auto)]
+
+mod print;
+
+fn main() {}
