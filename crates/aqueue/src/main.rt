@@ -2,5 +2,6 @@
 #![tactic(auto)]
 
 mod print;
+mod schedule;
 
 fn main() {}

@@ -173,11 +173,11 @@ pub fn push_place(out: &mut Vec<u8>, name: &TextVal, statement: u32) -> Result<(
 }
 
 /// One run of steps of a session, as the schedule's line has it.
-pub fn push_run(out: &mut Vec<u8>, name: &TextVal, steps: u64) -> Result<(), NoMemory>
+pub fn push_run(out: &mut Vec<u8>, name: &str, steps: u64) -> Result<(), NoMemory>
     ensures { OnOk result (out.new.items ≡ out.old.items ++ (codes " " ++ name.now ++ codes "*" ++ decimal steps)) }
 {
     out.push(b' ')?;
-    out.extend_from_slice(name.bytes())?;
+    out.extend_from_slice(name.as_bytes())?;
     out.push(b'*')?;
     push_number(out, steps)
 }
