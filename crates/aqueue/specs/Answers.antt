@@ -1,7 +1,8 @@
 -- What the program answers to its words and its input, and the line or text that it writes.
-use Rattle.std.specs.Prelude.{◌≡◌, ℕ, ◌<◌, ◌≤◌, Bool, true, false, ◌==◌, List, [], ◌∷◌, ◌++◌, length, Option, IfSome, codes}
+use Rattle.std.specs.Prelude.{◌≡◌, ℕ, ◌<◌, ◌≤◌, Bool, true, false, ◌==◌, List, [], ◌∷◌, ◌++◌, length, take, Option, IfSome, codes}
 use Rattle.std.specs.Fmt.{decimal}
 use Rattle.std.specs.List.{list_any}
+use Rattle.std.specs.Io.KnownBytes.{Appends}
 use Rattle.aq_base.specs.Names.{Text, same_text}
 use Rattle.aq_base.specs.Setup.{Program, program_of}
 use Rattle.aq_base.specs.declared.fault.SqlFault.{SqlFault}
@@ -62,3 +63,12 @@ pub data IsAnswer : List Text → Option (List ℕ) → ℕ → Text → Type 0 
 -- one of these statuses
 abbrev pub is_one_of : List ℕ → ℕ → Bool
 is_one_of statuses status = list_any (λ s. s == status) statuses
+
+-- What the sink took is an answer of some kind to all bytes of a source that tells them.
+abbrev pub Wrote : Option (List ℕ) → Option (List ℕ) → Option (List ℕ) → (List ℕ → Text → Type 0) → Type 0
+Wrote input written after IsRight = IfSome input (λ bytes. (length bytes ≤ script_limit) × ((output : Text) × IsRight bytes output × Appends written after output))
+
+-- What the sink took is a beginning of an answer to the words and the input.
+abbrev pub WroteBeginning : List Text → Option (List ℕ) → Option (List ℕ) → Option (List ℕ) → Type 0
+WroteBeginning words input written after =
+    (status : ℕ) × ((output : Text) × IsAnswer words input status output × ((n : ℕ) × (n < length output) × Appends written after (take n output)))
