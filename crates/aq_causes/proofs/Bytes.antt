@@ -1,5 +1,5 @@
 -- Known bytes over several reads and writes.
-use Rattle.std.proofs.Common.{◌≡◌, ℕ, ◌+◌, ◌-◌, ◌≤◌, List, ◌++◌, length, take, drop, refl, sym, ◌∙◌, ap, arith, append_assoc, length-append, OnErr}
+use Rattle.std.proofs.Common.{◌≡◌, ℕ, ◌+◌, ◌-◌, ◌≤◌, List, ◌++◌, length, take, drop, sym, ◌∙◌, ap, arith, append_assoc, length-append, OnErr}
 use Rattle.std.specs.Prelude.{Option, None, Some, Result, Ok, Err}
 use Rattle.std.specs.Io.KnownBytes.{Consumes, Appends}
 use Rattle.std.proofs.Math.Seq.{take-add}
@@ -11,7 +11,7 @@ pub Consumes-append : (left mid after : Option (List ℕ)) (xs ys : List ℕ) �
 Consumes-append None mid after xs ys first second = tt
 Consumes-append (Some ls) None after xs ys first second = absurd first
 Consumes-append (Some ls) (Some ms) None xs ys first second = absurd second
-Consumes-append (Some ls) (Some ms) (Some as') xs ys first second = rw append_assoc (first ∙ ap (λ zs. xs ++ zs) second)
+Consumes-append (Some ls) (Some ms) (Some ns) xs ys first second = rw append_assoc (first ∙ ap (λ zs. xs ++ zs) second)
 
 -- two writes one after the other
 pub Appends-append : (old mid new : Option (List ℕ)) (xs ys : List ℕ) → Appends old mid xs → Appends mid new ys → Appends old new (xs ++ ys)
@@ -36,7 +36,7 @@ pub Gave-more : (left mid after : Option (List ℕ)) (given buf : List ℕ) (n :
 Gave-more left mid after given buf n first some within second =
     (given ++ take n buf, omega (arith, length-append given (take n buf), length-take n buf), Consumes-append left mid after given (take n buf) first second)
 
--- a fact that holds anyway
+-- a fact that holds anyway, of an error
 pub OnErr-of : {T E : Type 0} {P : Type 0} (r : Result T E) → P → OnErr r P
 OnErr-of (Ok x) fact = tt
 OnErr-of (Err e) fact = fact

@@ -1,4 +1,4 @@
-use Rattle.std.specs.Prelude.{ℕ, ◌<◌, ◌≤◌, List, length}
+use Rattle.std.specs.Prelude.{◌≡◌, ℕ, ◌<◌, ◌≤◌, List, [], length, Some}
 use Rattle.std.specs.declared.option.Option.{Option}
 use Rattle.std.specs.Io.KnownBytes.{Consumes, IsAtEnd}
 use Rattle.aq_causes.specs.Counts.{Rose}
@@ -14,3 +14,9 @@ abbrev pub GatheredCases : ℕ → ℕ → ℕ → Option (List ℕ) → Option 
 GatheredCases limit before now left after (All bytes) = (length bytes ≤ limit) × Consumes left after bytes × IsAtEnd after
 GatheredCases limit before now left after Failed = Rose before now × Gave left after (λ n. n ≤ limit)
 GatheredCases limit before now left after TooLong = Gave left after (λ n. limit < n)
+
+-- the same where the source told the bytes that were left: all of them or more than the limit
+abbrev pub ToldCases : ℕ → List ℕ → Option (List ℕ) → Gathered → Type 0
+ToldCases limit left after (All bytes) = (bytes ≡ left) × (length left ≤ limit) × (after ≡ Some [])
+ToldCases limit left after Failed = Unit {0}
+ToldCases limit left after TooLong = limit < length left

@@ -1,4 +1,4 @@
-use Rattle.std.specs.Prelude.{ℕ, Bool, List, ◌++◌, ◌-◌, ◌==◌, ◌||◌, length, min, take, if◌then◌else◌}
+use Rattle.std.specs.Prelude.{ℕ, List, ◌++◌, ◌-◌, ◌==◌, length, min, take, if◌then◌else◌}
 use Rattle.std.specs.List.{list_any}
 use Rattle.aq_causes.specs.Counts.{one_more}
 use Rattle.aq_causes.specs.declared.sink.Put.{Put}

@@ -1,5 +1,5 @@
-ghost use Rattle.std.specs.Prelude.{◌≤◌, IfOk, OnErr};
-ghost use Rattle.aq_causes.specs.Gathered.{GatheredCases, Gave};
+ghost use Rattle.std.specs.Prelude.{◌≤◌, IfOk, IfSome, OnErr};
+ghost use Rattle.aq_causes.specs.Gathered.{GatheredCases, Gave, ToldCases};
 
 use crate::source::{Source, Taken};
 use aq_base::{List, NoMemory};
@@ -20,6 +20,7 @@ pub enum Gathered {
 /// of memory.
 pub fn read_all<S: Source>(alloc: Global, input: &mut S, limit: usize) -> Result<Gathered, NoMemory>
     ensures cases { IfOk result (GatheredCases limit (S.faults input.old) (S.faults input.new) (S.left input.old) (S.left input.new)) }
+    ensures told { IfSome (S.left input.old) (λ left. IfOk result (ToldCases limit left (S.left input.new))) }
     ensures count { S.faults input.old ≤ S.faults input.new }
     ensures err { OnErr result (Gave (S.left input.old) (S.left input.new) (λ n. 1 ≤ n)) }
 {

@@ -1,4 +1,5 @@
-ghost use Rattle.std.specs.Prelude.{◌≡◌};
+ghost use Rattle.std.specs.Prelude.{◌≡◌, ◌<◌, ◌≤◌, length};
+ghost use Rattle.aq_causes.specs.Put.{PutCases, faults_after_write};
 
 use crate::sink::{Put, Sink};
 use std::io::Write;
@@ -45,7 +46,12 @@ impl<W: Write> Sink for StdSink<W> {
 
     ghost faults = { λ s. s.1 };
 
-    fn write(&mut self, piece: &[u8]) -> Put {
+    fn write(&mut self, piece: &[u8]) -> Put
+        requires { 0 < length piece.now }
+        ensures cases { PutCases self.old.1 self.new.1 (W.contents self.old.0) (W.contents self.new.0) piece.now result }
+        ensures count { self.old.1 ≤ self.new.1 }
+        ensures faults { self.new.1 ≡ faults_after_write self.old.1 result }
+    {
         match self.inner.write(piece) {
             Ok(0) | Err(_) => {
                 self.faults = self.faults.saturating_add(1);

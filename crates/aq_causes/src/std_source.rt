@@ -1,4 +1,5 @@
-ghost use Rattle.std.specs.Prelude.{◌≡◌};
+ghost use Rattle.std.specs.Prelude.{◌≡◌, ◌<◌, ◌≤◌, length};
+ghost use Rattle.aq_causes.specs.Taken.{TakenCases, faults_after_read};
 
 use crate::source::{Source, Taken};
 use std::io::Read;
@@ -36,7 +37,12 @@ impl<R: Read> Source for StdSource<R> {
 
     ghost faults = { λ s. s.1 };
 
-    fn read(&mut self, buf: &mut [u8]) -> Taken {
+    fn read(&mut self, buf: &mut [u8]) -> Taken
+        requires { 0 < length buf.old }
+        ensures cases { TakenCases self.old.1 self.new.1 (R.remaining self.old.0) (R.remaining self.new.0) buf.new result }
+        ensures count { self.old.1 ≤ self.new.1 }
+        ensures faults { self.new.1 ≡ faults_after_read self.old.1 result }
+    {
         match self.inner.read(buf) {
             Ok(0) => Taken::End,
             Ok(count) => Taken::Got(count),

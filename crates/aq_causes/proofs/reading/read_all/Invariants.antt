@@ -7,7 +7,7 @@ abbrev pub invariant-pieces : goal.invariant-pieces
 invariant-pieces g l = record {
   given : Consumes (g.S.Source.left l.fn.input) (g.S.Source.left l.input) l.bytes.items;
   count : g.S.Source.faults l.fn.input ≤ g.S.Source.faults l.input;
-  room : length l.piece ≡ 4096
+  room : length l.piece ≡ 4096;
 }
 
 abbrev pub decreases-pieces : goal.decreases-pieces

@@ -7,7 +7,7 @@ invariant-pieces g l = record {
   within : l.at ≤ length l.bytes;
   written : Appends (g.K.Sink.written l.fn.output) (g.K.Sink.written l.output) (take l.at l.bytes);
   count : g.K.Sink.faults l.fn.output ≤ g.K.Sink.faults l.output;
-  untouched : l.at ≡ 0 → l.output ≡ l.fn.output
+  untouched : l.at ≡ 0 → l.output ≡ l.fn.output;
 }
 
 abbrev pub decreases-pieces : goal.decreases-pieces
