@@ -24,7 +24,13 @@ impl Model for MemorySink {
 
     ghost Value = { SinkState };
 
-    ghost view = { λ s. record { written = s.bytes.items; room = s.room; fail = s.fail; calls = s.calls; faults = s.faults } };
+    ghost view = { λ s. record {
+      written = s.bytes.items;
+      room = s.room;
+      fail = s.fail;
+      calls = s.calls;
+      faults = s.faults;
+    } };
 
     ghost invariant = { λ s. (vec_len s.bytes ≤ s.room) × (s.room ≤ vec_capacity s.bytes) };
 }
@@ -34,7 +40,8 @@ impl MemorySink {
     /// the calls whose numbers are in `fail`. The first call is number 1. A call beyond number
     /// 2^64 - 1 has that number too. The error is want of memory.
     pub fn new(alloc: Global, room: usize, fail: List<u64>) -> Result<MemorySink, NoMemory>
-        ensures { IfOk result (λ sink. sink ≡ record { written = []; room = room; fail = fail; calls = 0; faults = 0 }) }
+        ensures { IfOk result (λ sink. sink
+            ≡ record { written = []; room = room; fail = fail; calls = 0; faults = 0 }) }
     {
         Ok(MemorySink {
             bytes: Vec::with_capacity(alloc, room)?,
@@ -62,7 +69,8 @@ impl Sink for MemorySink {
     /// Takes as many bytes as there is room for. It takes no memory.
     fn write(&mut self, piece: &[u8]) -> Put
         requires { 0 < length piece.now }
-        ensures cases { PutCases self.old.faults self.new.faults (Some self.old.written) (Some self.new.written) piece.now result }
+        ensures cases { PutCases self.old.faults self.new.faults
+            (Some self.old.written) (Some self.new.written) piece.now result }
         ensures count { self.old.faults ≤ self.new.faults }
         ensures answer { result ≡ write_answer self.old piece.now }
         ensures after { self.new ≡ after_write self.old piece.now (write_answer self.old piece.now) }

@@ -23,7 +23,13 @@ impl Model for MemorySource {
 
     ghost Value = { SourceState };
 
-    ghost view = { λ s. record { left = drop s.at s.bytes; piece = s.piece; fail = s.fail; calls = s.calls; faults = s.faults } };
+    ghost view = { λ s. record {
+      left = drop s.at s.bytes;
+      piece = s.piece;
+      fail = s.fail;
+      calls = s.calls;
+      faults = s.faults;
+    } };
 
     ghost invariant = { λ s. (s.at ≤ length s.bytes) × (1 ≤ s.piece) };
 }
@@ -34,7 +40,8 @@ impl MemorySource {
     /// number too.
     pub fn new(bytes: List<u8>, piece: usize, fail: List<u64>) -> MemorySource
         requires { 1 ≤ piece }
-        ensures { result ≡ record { left = bytes; piece = piece; fail = fail; calls = 0; faults = 0 } }
+        ensures { result
+            ≡ record { left = bytes; piece = piece; fail = fail; calls = 0; faults = 0 } }
     {
         MemorySource {
             bytes,
@@ -66,11 +73,13 @@ impl Source for MemorySource {
     /// Reads as many bytes as the piece, the buffer and what is left allow.
     fn read(&mut self, buf: &mut [u8]) -> Taken
         requires { 0 < length buf.old }
-        ensures cases { TakenCases self.old.faults self.new.faults (Some self.old.left) (Some self.new.left) buf.new result }
+        ensures cases { TakenCases self.old.faults self.new.faults
+            (Some self.old.left) (Some self.new.left) buf.new result }
         ensures count { self.old.faults ≤ self.new.faults }
         ensures answer { result ≡ read_answer self.old (length buf.old) }
         ensures after { self.new ≡ after_read self.old (read_answer self.old (length buf.old)) }
-        ensures buffer { buf.new ≡ buffer_after self.old (read_answer self.old (length buf.old)) buf.old }
+        ensures buffer { buf.new
+            ≡ buffer_after self.old (read_answer self.old (length buf.old)) buf.old }
     {
         self.calls = self.calls.saturating_add(1);
         if self.fail.as_slice().contains(&self.calls) {

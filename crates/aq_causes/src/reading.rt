@@ -19,8 +19,10 @@ pub enum Gathered {
 /// Reads until the source ends, or a fault comes, or more than `limit` bytes came. The error is want
 /// of memory.
 pub fn read_all<S: Source>(alloc: Global, input: &mut S, limit: usize) -> Result<Gathered, NoMemory>
-    ensures cases { IfOk result (GatheredCases limit (S.faults input.old) (S.faults input.new) (S.left input.old) (S.left input.new)) }
-    ensures told { IfSome (S.left input.old) (λ left. IfOk result (ToldCases limit left (S.left input.new))) }
+    ensures cases { IfOk result (GatheredCases limit (S.faults input.old) (S.faults input.new)
+        (S.left input.old) (S.left input.new)) }
+    ensures told { IfSome (S.left input.old) (λ left.
+        IfOk result (ToldCases limit left (S.left input.new))) }
     ensures count { S.faults input.old ≤ S.faults input.new }
     ensures err { OnErr result (Gave (S.left input.old) (S.left input.new) (λ n. 1 ≤ n)) }
 {

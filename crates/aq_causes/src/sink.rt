@@ -22,6 +22,7 @@ pub trait Sink {
     /// Writes some bytes of the front of the piece.
     fn write(&mut self, piece: &[u8]) -> Put
         requires { 0 < length piece.now }
-        ensures cases { PutCases (faults self.old) (faults self.new) (written self.old) (written self.new) piece.now result }
+        ensures cases { PutCases (faults self.old) (faults self.new)
+            (written self.old) (written self.new) piece.now result }
         ensures count { faults self.old ≤ faults self.new };
 }

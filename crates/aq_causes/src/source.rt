@@ -24,6 +24,7 @@ pub trait Source {
     /// Reads some bytes into the front of the buffer.
     fn read(&mut self, buf: &mut [u8]) -> Taken
         requires { 0 < length buf.old }
-        ensures cases { TakenCases (faults self.old) (faults self.new) (left self.old) (left self.new) buf.new result }
+        ensures cases { TakenCases (faults self.old) (faults self.new)
+            (left self.old) (left self.new) buf.new result }
         ensures count { faults self.old ≤ faults self.new };
 }

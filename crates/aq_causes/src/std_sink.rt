@@ -48,7 +48,8 @@ impl<W: Write> Sink for StdSink<W> {
 
     fn write(&mut self, piece: &[u8]) -> Put
         requires { 0 < length piece.now }
-        ensures cases { PutCases self.old.1 self.new.1 (W.contents self.old.0) (W.contents self.new.0) piece.now result }
+        ensures cases { PutCases self.old.1 self.new.1
+            (W.contents self.old.0) (W.contents self.new.0) piece.now result }
         ensures count { self.old.1 ≤ self.new.1 }
         ensures faults { self.new.1 ≡ faults_after_write self.old.1 result }
     {

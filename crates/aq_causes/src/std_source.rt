@@ -39,7 +39,8 @@ impl<R: Read> Source for StdSource<R> {
 
     fn read(&mut self, buf: &mut [u8]) -> Taken
         requires { 0 < length buf.old }
-        ensures cases { TakenCases self.old.1 self.new.1 (R.remaining self.old.0) (R.remaining self.new.0) buf.new result }
+        ensures cases { TakenCases self.old.1 self.new.1
+            (R.remaining self.old.0) (R.remaining self.new.0) buf.new result }
         ensures count { self.old.1 ≤ self.new.1 }
         ensures faults { self.new.1 ≡ faults_after_read self.old.1 result }
     {

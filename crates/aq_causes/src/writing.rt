@@ -14,7 +14,8 @@ pub enum Written {
 
 /// Writes all the bytes, or stops at the first fault. It takes no memory.
 pub fn write_all<K: Sink>(output: &mut K, bytes: &[u8]) -> Written
-    ensures cases { WrittenCases (K.faults output.old) (K.faults output.new) (K.written output.old) (K.written output.new) bytes.now result }
+    ensures cases { WrittenCases (K.faults output.old) (K.faults output.new)
+        (K.written output.old) (K.written output.new) bytes.now result }
     ensures count { K.faults output.old ≤ K.faults output.new }
     ensures nothing { bytes.now ≡ [] → output.new ≡ output.old }
 {
