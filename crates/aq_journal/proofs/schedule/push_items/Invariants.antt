@@ -1,8 +1,8 @@
 use Rattle.std.proofs.Common.{◌≡◌, ◌++◌, ◌+◌, ◌≤◌, map, length, List}
 use Rattle.std.specs.Prelude.{replicate}
 use Rattle.aq_run.specs.Texts.{run_item}
-use Rattle.aqueue.proofs.Stepping.{items_of}
-use Rattle.aqueue.proofs.schedule.push_items.Given as goal
+use Rattle.aq_journal.proofs.Stepping.{items_of}
+use Rattle.aq_journal.proofs.schedule.push_items.Given as goal
 
 abbrev pub invariant-items : goal.invariant-items
 invariant-items l =

@@ -2,8 +2,8 @@ use Rattle.std.proofs.Common.{◌≡◌, ℕ, List, ◌∷◌, ◌++◌, [], map
 use Rattle.std.specs.Prelude.{replicate}
 use Rattle.std.proofs.lemmas.List.{nil_from_length}
 use Rattle.aq_run.specs.Texts.{run_item}
-use Rattle.aqueue.proofs.Stepping.{items_of, other_run, last_run}
-use Rattle.aqueue.proofs.schedule.push_items.Goals as goal
+use Rattle.aq_journal.proofs.Stepping.{items_of, other_run, last_run}
+use Rattle.aq_journal.proofs.schedule.push_items.Goals as goal
 
 pub items-preserved : goal.items-preserved
 items-preserved c =

@@ -1,6 +1,6 @@
 use Rattle.std.proofs.Common.{ℕ, List, ◌++◌, ap, ◌∙◌}
-use Rattle.aqueue.proofs.Joining.{joins}
-use Rattle.aqueue.proofs.print.push_columns.Goals as goal
+use Rattle.aq_journal.proofs.Joining.{joins}
+use Rattle.aq_journal.proofs.print.push_columns.Goals as goal
 
 pub returns : goal.returns
 returns c =

@@ -1,6 +1,6 @@
 use Rattle.aq_run.specs.Texts.{value_text}
-use Rattle.aqueue.proofs.Joining.{joins}
-use Rattle.aqueue.proofs.print.push_values.Goals as goal
+use Rattle.aq_journal.proofs.Joining.{joins}
+use Rattle.aq_journal.proofs.print.push_values.Goals as goal
 
 pub returns : goal.returns
 returns c =
