@@ -1,2 +1,5 @@
 pub mod Running
 pub mod Worked
+pub mod Told_bytes
+pub mod Told_runs
+pub mod Told
