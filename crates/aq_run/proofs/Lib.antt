@@ -3,3 +3,4 @@ pub mod Worked
 pub mod Told_bytes
 pub mod Told_runs
 pub mod Told
+pub mod Told_worked

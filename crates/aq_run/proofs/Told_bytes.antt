@@ -1,5 +1,5 @@
 -- Texts that have no byte of a kind, and where they are cut.
-use Rattle.std.proofs.Common.{◌≡◌, ℕ, zero, suc, ◌+◌, ◌/◌, ◌%◌, ◌<◌, ◌≤◌, Bool, true, false, cond, not, ◌&&◌, ◌||◌, eqb, List, [], ◌∷◌, ◌++◌, refl, sym, ap, subst, ◌∙◌, length, length-append, append_assoc, arith, codes, true≢false, eqb-true, eq-eqb}
+use Rattle.std.proofs.Common.{◌≡◌, ℕ, zero, suc, ◌/◌, ◌%◌, ◌<◌, Bool, true, false, not, ◌&&◌, ◌||◌, eqb, List, [], ◌∷◌, ◌++◌, refl, sym, ap, ◌∙◌, length, length-append, arith, true≢false, eqb-true, eq-eqb}
 use Rattle.std.specs.List.{list_all, flat_map}
 use Rattle.std.specs.Fmt.{digits, digit_glyph, digits_onto, decimal}
 use Rattle.std.proofs.lemmas.List.{append_cancel_right}
@@ -55,7 +55,7 @@ onto_digits zero n acc all = all
 onto_digits (suc k) n acc all =
     let more = and_from (is_between 48 57 (digit_glyph false (n % 10))) (list_all (is_between 48 57) acc) (digit_of (n % 10) (omega arith)) all in
     cond_both (eqb (n / 10) 0) (digit_glyph false (n % 10) ∷ acc) (digits_onto k 10 false (n / 10) (digit_glyph false (n % 10) ∷ acc))
-      (λ (t : Text). list_all (is_between 48 57) t ≡ true) (λ _. more) (λ _. onto_digits k (n / 10) (digit_glyph false (n % 10) ∷ acc) more)
+    (λ (t : Text). list_all (is_between 48 57) t ≡ true) (λ _. more) (λ _. onto_digits k (n / 10) (digit_glyph false (n % 10) ∷ acc) more)
 
 decimal_digits : (n : ℕ) → list_all (is_between 48 57) (decimal n) ≡ true
 unfolding digits

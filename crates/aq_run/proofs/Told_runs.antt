@@ -1,14 +1,12 @@
 -- A schedule is had back from the longest runs of its steps, and they from their text.
-use Rattle.std.proofs.Common.{◌≡◌, ℕ, zero, suc, ◌+◌, ◌^◌, ◌<◌, ◌≤◌, Bool, true, false, cond, not, ◌&&◌, ◌||◌, eqb, ltb, List, [], ◌∷◌, ◌++◌, length, length-append, refl, sym, ap, subst, ◌∙◌, append_assoc, arith, codes, true≢false, eqb-true, ltb-true, add-one, slice_get, unwrap_or, nat_eq}
+use Rattle.std.proofs.Common.{◌≡◌, ℕ, zero, suc, ◌+◌, ◌^◌, ◌<◌, ◌≤◌, Bool, true, false, not, ◌||◌, eqb, ltb, List, [], ◌∷◌, ◌++◌, length, length-append, refl, sym, ap, ◌∙◌, append_assoc, arith, codes, true≢false, eqb-true, ltb-true, add-one}
 use Rattle.std.specs.Prelude.{replicate}
 use Rattle.std.specs.List.{list_all, list_any, flat_map}
-use Rattle.std.specs.Cmp.Lexicographic.{pointwise, bytes_decides}
+use Rattle.std.specs.Cmp.Lexicographic.{bytes_decides}
 use Rattle.std.specs.Fmt.{decimal}
 use Rattle.std.proofs.lemmas.Fmt.{decimal_is_IsNumeral_wide}
 use Rattle.std.specs.Str.Parse.{digits_value}
-use Rattle.std.proofs.lemmas.List.{append-nil}
-use Rattle.std.proofs.lemmas.Bool.{and_parts, or_parts, and_from, cond_both}
-use Rattle.std.proofs.lemmas.Bool.Decides.{nat_tests}
+use Rattle.std.proofs.lemmas.Bool.{and_parts, cond_both}
 use Rattle.aq_base.specs.Names.{Text, same_text, goes_on_in_word, is_name, is_apart_from, all_differ}
 use Rattle.aq_run.specs.Runs.{Schedule}
 use Rattle.aq_run.specs.Texts.{name_at, with_step, runs_of, run_item}
@@ -24,7 +22,7 @@ steps_of-with_step : (s : ℕ) (runs : List (ℕ × ℕ)) → steps_of (with_ste
 steps_of-with_step s [] = refl
 steps_of-with_step s (first ∷ others) =
     cond_both (eqb s first.0) ((first.0, first.1 + 1) ∷ others) ((s, 1) ∷ first ∷ others) (λ (r : List (ℕ × ℕ)). steps_of r ≡ s ∷ steps_of (first ∷ others))
-      (λ e. rw (add-one, eqb-true s first.0 e) refl) (λ _. refl)
+    (λ e. rw (add-one, eqb-true s first.0 e) refl) (λ _. refl)
 
 steps_of-runs_of : (w : Schedule) → steps_of (runs_of w) ≡ w
 steps_of-runs_of [] = refl
@@ -49,7 +47,7 @@ Runs_fit-with_step : (n k s : ℕ) (runs : List (ℕ × ℕ)) → s < n → Runs
 Runs_fit-with_step n k s [] below fit = (below, omega arith, tt)
 Runs_fit-with_step n k s (first ∷ others) below fit =
     cond_both (eqb s first.0) ((first.0, first.1 + 1) ∷ others) ((s, 1) ∷ first ∷ others) (Runs_fit n (suc k))
-      (λ _. (fit.0, omega arith, Runs_fit-more n k others fit.2)) (λ _. (below, omega arith, Runs_fit-more n k (first ∷ others) fit))
+    (λ _. (fit.0, omega arith, Runs_fit-more n k others fit.2)) (λ _. (below, omega arith, Runs_fit-more n k (first ∷ others) fit))
 
 pub Runs_fit-runs_of : (names : List Text) (w : Schedule) → are_named names w ≡ true → Runs_fit (length names) (length w) (runs_of w)
 Runs_fit-runs_of names [] named = tt
@@ -110,7 +108,7 @@ behind-injective names k l (item ∷ a) [] are differ p q f g e =
     let lengths : 0 ≡ length (behind names (item ∷ a)) = ap length (sym e) in absurd (omega (arith, simp length-append at lengths))
 behind-injective names k l (x ∷ a) (y ∷ b) are differ p q f g e =
     let outer = cuts 42 (name_at names x.0) (name_at names y.0) (decimal x.1 ++ 32 ∷ behind names a) (decimal y.1 ++ 32 ∷ behind names b)
-      (name_at-free 42 names x.0 refl are) (name_at-free 42 names y.0 refl are) e in
+    (name_at-free 42 names x.0 refl are) (name_at-free 42 names y.0 refl are) e in
     let inner = cuts 32 (decimal x.1) (decimal y.1) (behind names a) (behind names b) (decimal_free 32 x.1 refl) (decimal_free 32 y.1 refl) outer.1 in
     let session : x.0 ≡ y.0 = name_at-injective names x.0 y.0 differ f.0 g.0 outer.0 in
     let steps : x.1 ≡ y.1 = decimal-injective x.1 y.1 (omega arith) (omega arith) inner.0 in
@@ -129,7 +127,7 @@ items-injective names k l a b are differ p q f g e =
 pub item_free : (names : List Text) (item : ℕ × ℕ) → list_all is_name names ≡ true → is_free_of 10 (run_item names item) ≡ true
 item_free names item are =
     free_of-append 10 (name_at names item.0 ++ codes "*") (decimal item.1)
-      (free_of-append 10 (name_at names item.0) (codes "*") (name_at-free 10 names item.0 refl are) refl) (decimal_free 10 item.1 refl)
+    (free_of-append 10 (name_at names item.0) (codes "*") (name_at-free 10 names item.0 refl are) refl) (decimal_free 10 item.1 refl)
 
 pub items_free : (names : List Text) (items : List (ℕ × ℕ)) → list_all is_name names ≡ true → is_free_of 10 (flat_map (run_item names) items) ≡ true
 items_free names [] are = refl
