@@ -1,0 +1,9 @@
+//! Scripts of the first language, from their bytes.
+#![tactic(auto)]
+
+mod fault;
+mod reading;
+mod token;
+
+pub use fault::ScriptFault;
+pub use reading::{one_reading, read_script};
