@@ -1,3 +1,5 @@
 pub mod Tokens
 pub mod Grammar
 pub mod Reading
+pub mod Steps
+pub mod Lexing

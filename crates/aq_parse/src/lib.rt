@@ -1,7 +1,9 @@
 //! Scripts of the first language, from their bytes.
 #![tactic(auto)]
 
+mod bytes;
 mod fault;
+mod lexer;
 mod reading;
 mod token;
 
