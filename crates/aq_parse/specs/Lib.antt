@@ -3,3 +3,4 @@ pub mod Grammar
 pub mod Reading
 pub mod Steps
 pub mod Lexing
+pub mod Parsing

@@ -4,6 +4,7 @@
 mod bytes;
 mod fault;
 mod lexer;
+mod parser;
 mod reading;
 mod token;
 
