@@ -116,3 +116,11 @@ module _ {A : Type 0} (spelled : A → List Token) (form : A → Bool) (element 
       let first = reader.again x tokens p.0 p.1 q.0 (follows_first xs p.0 rest p.2 symbol) in
       let others = each_again (begins_with (is_mark 44)) (next_at element) Next (begins_with is_symbol_token) next_again xs (length p.0) p.0 rest (omega arith) (apart xs p.0 rest p.2 q.1) other symbol in
       ap (λ (o : Option (A × List Lexed)). o >>= go) first ∙ ap (λ (o : Option (List A × List Lexed)). o >>= λ others. Some (x ∷ others.0, others.1)) others
+
+-- an element behind a comma is read
+pub next_is : {A : Type 0} (element : List Lexed → Option (A × List Lexed)) (tokens behind : List Lexed) (given : Option (A × List Lexed)) → behind_one (is_mark 44) tokens ≡ Some behind → element behind ≡ given → next_at element tokens ≡ given
+next_is element tokens behind given e k = ap (λ (o : Option (List Lexed)). o >>= element) e ∙ k
+
+pub next_fails : {A : Type 0} (fault : ReadFault) (element : List Lexed → Option (A × List Lexed)) (tokens behind : List Lexed) → behind_one (is_mark 44) tokens ≡ Some behind → Fails fault (element behind) → Fails fault (next_at element tokens)
+next_fails NoMemory element tokens behind e k = tt
+next_fails NotBuilt element tokens behind e k = next_is element tokens behind None e k

@@ -159,3 +159,16 @@ script_again tokens script h =
     let a = setup_again script.setup tokens h.sessions h.setup_part (behind_setup script.sessions h.sessions h.sessions_part) in
     let b = sessions_again script.sessions h.sessions h.sessions_part in
     rw (a, b) (rw (← h.schedule_part) refl)
+
+-- ---- as the loop over statements goes on
+
+all_with_nothing : (given : Option (List Placed × List Lexed)) → (given >>= λ found. Some ([] ++ found.0, found.1)) ≡ given
+all_with_nothing (Some found) = refl
+all_with_nothing None = refl
+
+pub statements_stand : (tokens : List Lexed) → Stands goes_on placed_at [] tokens (statements_at tokens)
+statements_stand tokens = record { most = length tokens; enough = omega arith; same = all_with_nothing (repeated_at goes_on placed_at (length tokens) tokens) }
+
+pub some_go_on : (tokens : List Lexed) → goes_on tokens ≡ true → 1 ≤ length tokens
+some_go_on [] e = absurd cc
+some_go_on (lexed ∷ others) e = omega arith
