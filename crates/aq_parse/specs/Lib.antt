@@ -4,3 +4,4 @@ pub mod Reading
 pub mod Steps
 pub mod Lexing
 pub mod Parsing
+pub mod Conditions

@@ -2,8 +2,10 @@
 #![tactic(auto)]
 
 mod bytes;
+mod conditions;
 mod fault;
 mod lexer;
+mod names;
 mod parser;
 mod reading;
 mod token;
