@@ -5,3 +5,5 @@ pub mod Listing
 pub mod Readers
 pub mod Trees
 pub mod Sections
+pub mod Kept
+pub mod Stands

@@ -1,9 +1,9 @@
 //! What a script keeps beside its form: names and limits.
 
 ghost use Rattle.std.specs.Prelude.{◌≡◌, ◌-◌, ◌^◌, [], Some, map, min, sum_by};
-ghost use Rattle.std.specs.List.{list_all};
+ghost use Rattle.std.specs.List.{list_all, list_any};
 ghost use Rattle.std.specs.Option.{option_copied};
-ghost use Rattle.aq_base.specs.Names.{is_short, is_apart_from, all_differ, primary_key_name, foreign_key_name};
+ghost use Rattle.aq_base.specs.Names.{same_text, is_short, is_apart_from, all_differ, primary_key_name, foreign_key_name};
 ghost use Rattle.aq_base.specs.Scripts.{is_primary, is_reference, rows_in, rows_in_session, fits_first_language};
 ghost use Rattle.aq_parse.specs.Conditions.{items_named, primaries_in, references_in, has_primary, constraint_kept, column_kept, statement_references, references_before, create_kept, definition_kept, setup_kept, rows_kept, run_kept, session_kept, statements_in, script_kept};
 
@@ -50,13 +50,19 @@ fn references_in(items: &[ColumnItem]) -> usize
     items.iter().filter(|item| is_reference(item)).count()
 }
 
+fn any_primary(items: &[ColumnItem]) -> bool
+    ensures { result ≡ list_any (λ item. is_primary item.constraint) items.now }
+{
+    items.iter().any(|item| is_primary(item))
+}
+
 /// Whether the first table of a name has a primary key.
 fn has_primary(earlier: &[Placed], name: &TextVal) -> bool
     ensures { result ≡ has_primary (items_named earlier.now name.now) }
 {
     match items_named(earlier, name) {
         None => false,
-        Some(items) => items.as_slice().iter().any(|item| is_primary(item)),
+        Some(items) => any_primary(items.as_slice()),
     }
 }
 
@@ -102,12 +108,19 @@ fn columns_kept(earlier: &[Placed], table: &TextVal, items: &[ColumnItem]) -> bo
     items.iter().all(|item| column_kept(earlier, table, item))
 }
 
+fn any_named(items: &[ColumnItem], name: &TextVal) -> bool
+    ensures { result ≡ list_any (λ item. same_text name.now item.name) items.now }
+{
+    items
+        .iter()
+        .any(|item| same_text(name.bytes(), item.name.bytes()))
+}
+
+#[tactic(auto, using(crate::proofs::Kept::any_mapped))]
 fn is_apart_from(items: &[ColumnItem], name: &TextVal) -> bool
     ensures { result ≡ is_apart_from (map (λ item. item.name) items.now) name.now }
 {
-    !items
-        .iter()
-        .any(|item| same_text(name.bytes(), item.name.bytes()))
+    !any_named(items, name)
 }
 
 fn names_differ(items: &[ColumnItem]) -> bool
@@ -197,15 +210,18 @@ fn run_kept(setup: &[Placed], statement: &Statement) -> bool
     }
 }
 
+fn statements_kept(setup: &[Placed], statements: &[Placed]) -> bool
+    ensures { result ≡ list_all (λ placed. run_kept setup.now placed.statement) statements.now }
+{
+    statements
+        .iter()
+        .all(|placed| run_kept(setup, &placed.statement))
+}
+
 fn session_kept(setup: &[Placed], session: &SessionText) -> bool
     ensures { result ≡ session_kept setup.now session.now }
 {
-    is_name(&session.name)
-        && session
-            .statements
-            .as_slice()
-            .iter()
-            .all(|placed| run_kept(setup, &placed.statement))
+    is_name(&session.name) && statements_kept(setup, session.statements.as_slice())
 }
 
 fn rows_in(statement: &Statement) -> usize
