@@ -282,6 +282,7 @@ fn script_kept(script: &Script) -> bool
 }
 
 /// Whether a script keeps the names and limits of the first language.
+#[tactic(auto, using(crate::proofs::Stands::script_kept_is))]
 pub fn fits_first_language(script: &Script) -> bool
     ensures { result ≡ fits_first_language script.now }
 {
