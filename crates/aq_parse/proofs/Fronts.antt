@@ -83,8 +83,9 @@ pub one_takes : (test : Token → Bool) (token : Token) (tokens rest : List Lexe
 one_takes test token [] rest is e = none_is_not rest e
 one_takes test token (lexed ∷ others) rest is e =
     elim (chosen (test lexed.token) (Some others) None (Some rest) e) [
-    | inl g ↦ (lexed.line, others, ap (λ (t : Token). record { token = t; line = lexed.line } ∷ others) (is.only lexed.token g.0), some_is others rest g.1)
-    | inr g ↦ none_is_not rest g.1 ]
+      | inl g ↦ (lexed.line, others, ap (λ (t : Token). record { token = t; line = lexed.line } ∷ others) (is.only lexed.token g.0), some_is others rest g.1)
+      | inr g ↦ none_is_not rest g.1
+    ]
 
 pub one_again : (test : Token → Bool) (token : Token) (others : List Token) (tokens rest : List Lexed) → IsTestOf test token → BeginsWith (token ∷ others) tokens rest
     → (behind : List Lexed) × (behind_one test tokens ≡ Some behind) × BeginsWith others behind rest

@@ -22,20 +22,23 @@ use Rattle.aq_parse.proofs.Tests.{bind_some, chosen, some_is, none_is_not, word_
 pub front-behind : (test : ℕ → Bool) (bytes : List ℕ) → bytes ≡ front test bytes ++ behind test bytes
 front-behind test [] = refl
 front-behind test (byte ∷ bytes) = elim (test byte) as (λ v. byte ∷ bytes ≡ cond v (byte ∷ front test bytes) [] ++ cond v (behind test bytes) (byte ∷ bytes)) [
-    | true ↦ ap (λ (x : List ℕ). byte ∷ x) (front-behind test bytes)
-    | false ↦ refl ]
+  | true ↦ ap (λ (x : List ℕ). byte ∷ x) (front-behind test bytes)
+  | false ↦ refl
+]
 
 pub front_passes : (test : ℕ → Bool) (bytes : List ℕ) → list_all test (front test bytes) ≡ true
 front_passes test [] = refl
 front_passes test (byte ∷ bytes) = (elim (test byte) as (λ v. test byte ≡ v → list_all test (cond v (byte ∷ front test bytes) []) ≡ true) [
-    | true ↦ λ e. and_from (test byte) _ e (front_passes test bytes)
-    | false ↦ λ e. refl ]) refl
+  | true ↦ λ e. and_from (test byte) _ e (front_passes test bytes)
+  | false ↦ λ e. refl
+]) refl
 
 pub behind_fails : (test : ℕ → Bool) (bytes : List ℕ) → begins_otherwise test (behind test bytes) ≡ true
 behind_fails test [] = refl
 behind_fails test (byte ∷ bytes) = (elim (test byte) as (λ v. test byte ≡ v → begins_otherwise test (cond v (behind test bytes) (byte ∷ bytes)) ≡ true) [
-    | true ↦ λ e. behind_fails test bytes
-    | false ↦ λ e. not_from_false (test byte) e ]) refl
+  | true ↦ λ e. behind_fails test bytes
+  | false ↦ λ e. not_from_false (test byte) e
+]) refl
 
 record IsCut (test : ℕ → Bool) (bytes text rest : List ℕ) : Type 0 where
   passes : front test bytes ≡ text
@@ -86,27 +89,30 @@ word_found : (is_first : Bool) (byte : ℕ) (bytes : List ℕ) → begins_word (
 word_found is_first byte bytes h =
     let w = word_head byte bytes h in
     let is_word' : is_word (map lower (front is_in_word (byte ∷ bytes))) ≡ true =
-        rw w.passes (and_from (begins_word (lower byte)) _ h (list_all-map goes_on_in_word lower (front is_in_word bytes) ∙ front_passes is_in_word bytes)) in
+    rw w.passes (and_from (begins_word (lower byte)) _ h (list_all-map goes_on_in_word lower (front is_in_word bytes) ∙ front_passes is_in_word bytes)) in
     record { spelling = front is_in_word (byte ∷ bytes); parts = front-behind is_in_word (byte ∷ bytes); spelled = (refl, is_word', behind_fails is_in_word (byte ∷ bytes)) }
 
 integer_found : (is_first : Bool) (byte : ℕ) (bytes : List ℕ) (found : Token × List ℕ) → is_digit byte ≡ true → integer_at (byte ∷ bytes) ≡ Some found → Found is_first (byte ∷ bytes) found.0 found.1
 integer_found is_first byte bytes found h e =
     elim (chosen (nat_le (number_of (front is_digit (byte ∷ bytes))) 2147483647) (Some (Integer (number_of (front is_digit (byte ∷ bytes))), behind is_digit (byte ∷ bytes))) None (Some found) e) [
-    | inl g ↦
-      let digits : are_digits (front is_digit (byte ∷ bytes)) ≡ true = rw h (and_from (is_digit byte) _ h (front_passes is_digit bytes)) in
-      subst (λ (f : Token × List ℕ). Found is_first (byte ∷ bytes) f.0 f.1) (some_is _ _ g.1)
-        (record { spelling = front is_digit (byte ∷ bytes); parts = front-behind is_digit (byte ∷ bytes); spelled = (refl, leb-true _ _ g.0, digits, behind_fails is_digit (byte ∷ bytes)) })
-    | inr g ↦ none_is_not found g.1 ]
+      | inl g ↦
+          let digits : are_digits (front is_digit (byte ∷ bytes)) ≡ true = rw h (and_from (is_digit byte) _ h (front_passes is_digit bytes)) in
+          subst (λ (f : Token × List ℕ). Found is_first (byte ∷ bytes) f.0 f.1) (some_is _ _ g.1)
+          (record { spelling = front is_digit (byte ∷ bytes); parts = front-behind is_digit (byte ∷ bytes); spelled = (refl, leb-true _ _ g.0, digits, behind_fails is_digit (byte ∷ bytes)) })
+      | inr g ↦ none_is_not found g.1
+    ]
 
 directive_found : (bytes : List ℕ) (found : Token × List ℕ) → directive_at bytes ≡ Some found → Found true bytes found.0 found.1
 directive_found bytes found e =
     elim (chosen (starts_with nat_eq bytes (codes "\\setup")) (Some (Setup, drop 6 bytes)) (cond (starts_with nat_eq bytes (codes "\\session")) (Some (Session, drop 8 bytes)) None) (Some found) e) [
-    | inl g ↦ subst (λ (f : Token × List ℕ). Found true bytes f.0 f.1) (some_is _ _ g.1)
-        (record { spelling = codes "\\setup"; parts = (starts_is Decides-eqb bytes (codes "\\setup") _ refl).0 g.0; spelled = (refl, refl) })
-    | inr g ↦ elim (chosen (starts_with nat_eq bytes (codes "\\session")) (Some (Session, drop 8 bytes)) None (Some found) g.1) [
-      | inl k ↦ subst (λ (f : Token × List ℕ). Found true bytes f.0 f.1) (some_is _ _ k.1)
-          (record { spelling = codes "\\session"; parts = (starts_is Decides-eqb bytes (codes "\\session") _ refl).0 k.0; spelled = (refl, refl) })
-      | inr k ↦ none_is_not found k.1 ] ]
+      | inl g ↦ subst (λ (f : Token × List ℕ). Found true bytes f.0 f.1) (some_is _ _ g.1)
+          (record { spelling = codes "\\setup"; parts = (starts_is Decides-eqb bytes (codes "\\setup") _ refl).0 g.0; spelled = (refl, refl) })
+      | inr g ↦ elim (chosen (starts_with nat_eq bytes (codes "\\session")) (Some (Session, drop 8 bytes)) None (Some found) g.1) [
+        | inl k ↦ subst (λ (f : Token × List ℕ). Found true bytes f.0 f.1) (some_is _ _ k.1)
+            (record { spelling = codes "\\session"; parts = (starts_is Decides-eqb bytes (codes "\\session") _ refl).0 k.0; spelled = (refl, refl) })
+        | inr k ↦ none_is_not found k.1
+      ]
+    ]
 
 first_found : (is_first : Bool) (bytes : List ℕ) (found : Token × List ℕ) → cond is_first (directive_at bytes) None ≡ Some found → Found is_first bytes found.0 found.1
 first_found true bytes found e = directive_found bytes found e
@@ -119,12 +125,15 @@ token_takes is_first (byte ∷ bytes) found e =
     let directive : Option (Token × List ℕ) = cond is_first (directive_at (byte ∷ bytes)) None in
     let symbol : Option (Token × List ℕ) = cond (is_symbol byte) (Some (Symbol byte, bytes)) (cond is_first (directive_at (byte ∷ bytes)) None) in
     elim (chosen (begins_word (lower byte)) (Some (word_at (byte ∷ bytes))) (cond (is_digit byte) (integer_at (byte ∷ bytes)) (cond (is_symbol byte) (Some (Symbol byte, bytes)) (cond is_first (directive_at (byte ∷ bytes)) None))) (Some found) e) [
-    | inl g ↦ subst (λ (f : Token × List ℕ). Found is_first (byte ∷ bytes) f.0 f.1) (some_is _ _ g.1) (word_found is_first byte bytes g.0)
-    | inr g ↦ elim (chosen (is_digit byte) (integer_at (byte ∷ bytes)) (cond (is_symbol byte) (Some (Symbol byte, bytes)) (cond is_first (directive_at (byte ∷ bytes)) None)) (Some found) g.1) [
-      | inl k ↦ integer_found is_first byte bytes found k.0 k.1
-      | inr k ↦ elim (chosen (is_symbol byte) (Some (Symbol byte, bytes)) (cond is_first (directive_at (byte ∷ bytes)) None) (Some found) k.1) [
-        | inl s ↦ subst (λ (f : Token × List ℕ). Found is_first (byte ∷ bytes) f.0 f.1) (some_is _ _ s.1) (record { spelling = byte ∷ []; parts = refl; spelled = (refl, s.0) })
-        | inr s ↦ first_found is_first (byte ∷ bytes) found s.1 ] ] ]
+      | inl g ↦ subst (λ (f : Token × List ℕ). Found is_first (byte ∷ bytes) f.0 f.1) (some_is _ _ g.1) (word_found is_first byte bytes g.0)
+      | inr g ↦ elim (chosen (is_digit byte) (integer_at (byte ∷ bytes)) (cond (is_symbol byte) (Some (Symbol byte, bytes)) (cond is_first (directive_at (byte ∷ bytes)) None)) (Some found) g.1) [
+        | inl k ↦ integer_found is_first byte bytes found k.0 k.1
+        | inr k ↦ elim (chosen (is_symbol byte) (Some (Symbol byte, bytes)) (cond is_first (directive_at (byte ∷ bytes)) None) (Some found) k.1) [
+          | inl s ↦ subst (λ (f : Token × List ℕ). Found is_first (byte ∷ bytes) f.0 f.1) (some_is _ _ s.1) (record { spelling = byte ∷ []; parts = refl; spelled = (refl, s.0) })
+          | inr s ↦ first_found is_first (byte ∷ bytes) found s.1
+        ]
+      ]
+    ]
 
 -- what is found behind a spelling
 record IsFoundAgain (is_first : Bool) (token : Token) (spelling rest : List ℕ) : Type 0 where
@@ -213,7 +222,7 @@ unfolding tokens_from
 token_step place byte bytes found h e =
     let go : Token × List ℕ → Option (List Lexed) = λ found. tokens_from (length bytes - length found.1) (behind_token place) bytes >>= λ others. Some (record { token = found.0; line = place.line } ∷ others) in
     let left : tokens_from (length bytes - length found.1) (behind_token place) bytes ≡ tokens_from 0 (behind_token place) found.1 =
-      skipped (length bytes - length found.1) (behind_token place) bytes ∙ ap (λ (x : List ℕ). tokens_from 0 (behind_token place) x) (end_back bytes found.1 (token_end place.is_first byte bytes found e)) in
+    skipped (length bytes - length found.1) (behind_token place) bytes ∙ ap (λ (x : List ℕ). tokens_from 0 (behind_token place) x) (end_back bytes found.1 (token_end place.is_first byte bytes found e)) in
     cond-false (is_blank byte) _ _ h ∙ (ap (λ (o : Option (Token × List ℕ)). o >>= go) e ∙ ap (λ (o : Option (List Lexed)). o >>= λ others. Some (record { token = found.0; line = place.line } ∷ others)) left)
 
 pub token_fails : (place : Place) (byte : ℕ) (bytes : List ℕ) → is_blank byte ≡ false → token_at place.is_first (byte ∷ bytes) ≡ None → tokens_from 0 place (byte ∷ bytes) ≡ None
@@ -235,14 +244,15 @@ lexed_so (suc left) place (byte ∷ bytes) tokens e = lexed_so left place bytes 
 lexed_so zero place (byte ∷ bytes) tokens e =
     let go : Token × List ℕ → Option (List Lexed) = λ found. tokens_from (length bytes - length found.1) (behind_token place) bytes >>= λ others. Some (record { token = found.0; line = place.line } ∷ others) in
     elim (chosen (is_blank byte) (tokens_from zero (behind_blank byte place) bytes) (token_at place.is_first (byte ∷ bytes) >>= go) (Some tokens) e) [
-    | inl g ↦ Blank place byte bytes tokens g.0 (lexed_so zero (behind_blank byte place) bytes tokens g.1)
-    | inr g ↦
-      let a = bind_some (token_at place.is_first (byte ∷ bytes)) go tokens g.1 in
-      let b = bind_some (tokens_from (length bytes - length a.0.1) (behind_token place) bytes) (λ others. Some (record { token = a.0.0; line = place.line } ∷ others)) tokens a.2 in
-      let found = token_takes place.is_first (byte ∷ bytes) a.0 a.1 in
-      let later = lexed_so (length bytes - length a.0.1) (behind_token place) bytes b.0 b.1 in
-      let behind_it : Lexes (behind_token place) a.0.1 b.0 = subst (λ (x : List ℕ). Lexes (behind_token place) x b.0) (end_back bytes a.0.1 (token_end place.is_first byte bytes a.0 a.1)) later in
-      subst (λ (ts : List Lexed). Lexes place (byte ∷ bytes) ts) (some_is _ _ b.2) (Next place a.0.0 (byte ∷ bytes) found.spelling a.0.1 b.0 found.parts found.spelled behind_it) ]
+      | inl g ↦ Blank place byte bytes tokens g.0 (lexed_so zero (behind_blank byte place) bytes tokens g.1)
+      | inr g ↦
+          let a = bind_some (token_at place.is_first (byte ∷ bytes)) go tokens g.1 in
+          let b = bind_some (tokens_from (length bytes - length a.0.1) (behind_token place) bytes) (λ others. Some (record { token = a.0.0; line = place.line } ∷ others)) tokens a.2 in
+          let found = token_takes place.is_first (byte ∷ bytes) a.0 a.1 in
+          let later = lexed_so (length bytes - length a.0.1) (behind_token place) bytes b.0 b.1 in
+          let behind_it : Lexes (behind_token place) a.0.1 b.0 = subst (λ (x : List ℕ). Lexes (behind_token place) x b.0) (end_back bytes a.0.1 (token_end place.is_first byte bytes a.0 a.1)) later in
+          subst (λ (ts : List Lexed). Lexes place (byte ∷ bytes) ts) (some_is _ _ b.2) (Next place a.0.0 (byte ∷ bytes) found.spelling a.0.1 b.0 found.parts found.spelled behind_it)
+    ]
 
 pub lexed_again : (place : Place) (bytes : List ℕ) (tokens : List Lexed) → Lexes place bytes tokens → tokens_from 0 place bytes ≡ Some tokens
 unfolding tokens_from

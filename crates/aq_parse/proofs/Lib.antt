@@ -7,3 +7,4 @@ pub mod Trees
 pub mod Sections
 pub mod Kept
 pub mod Stands
+pub mod Whole

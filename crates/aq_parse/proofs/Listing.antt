@@ -92,12 +92,13 @@ module _ {A : Type 0} (begins : List Lexed → Bool) (element : List Lexed → O
   each_takes Spelled takes (suc most) tokens found e =
       let go : A × List Lexed → Option (List A × List Lexed) = λ first. repeated_at begins element most first.1 >>= λ others. Some (first.0 ∷ others.0, others.1) in
       elim (chosen (begins tokens) (element tokens >>= go) (Some ([], tokens)) (Some found) e) [
-      | inl g ↦
-        let a = bind_some (element tokens) go found g.1 in
-        let b = bind_some (repeated_at begins element most a.0.1) (λ others. Some (a.0.0 ∷ others.0, others.1)) found a.2 in
-        subst (λ (f : List A × List Lexed). SpellsEach Spelled f.0 tokens f.1) (some_is (a.0.0 ∷ b.0.0, b.0.1) found b.2)
-          (a.0.1, takes tokens a.0 a.1, each_takes Spelled takes most a.0.1 b.0 b.1)
-      | inr g ↦ subst (λ (f : List A × List Lexed). SpellsEach Spelled f.0 tokens f.1) (some_is ([], tokens) found g.1) refl ]
+        | inl g ↦
+            let a = bind_some (element tokens) go found g.1 in
+            let b = bind_some (repeated_at begins element most a.0.1) (λ others. Some (a.0.0 ∷ others.0, others.1)) found a.2 in
+            subst (λ (f : List A × List Lexed). SpellsEach Spelled f.0 tokens f.1) (some_is (a.0.0 ∷ b.0.0, b.0.1) found b.2)
+            (a.0.1, takes tokens a.0 a.1, each_takes Spelled takes most a.0.1 b.0 b.1)
+        | inr g ↦ subst (λ (f : List A × List Lexed). SpellsEach Spelled f.0 tokens f.1) (some_is ([], tokens) found g.1) refl
+      ]
 
   -- an element that is spelled is read again, where something that may follow it does
   pub record IsReadAgain (Spelled : A → List Lexed → List Lexed → Type 0) (follows : List Lexed → Bool) : Type 0 where

@@ -99,7 +99,7 @@ module _ {A : Type 0} (spelled : A → List Token) (form : A → Bool) (element 
       let first = reader.takes tokens a.0 a.1 in
       let others = joined b.0.0 a.0.1 b.0.1 (each_takes (begins_with (is_mark 44)) (next_at element) Next next_takes (length a.0.1) a.0.1 b.0 b.1) in
       subst (λ (f : List A × List Lexed). BeginsWith (with_commas spelled f.0) tokens f.1 × (are_some form f.0 ≡ true)) (some_is (a.0.0 ∷ b.0.0, b.0.1) found b.2)
-        (begins_then (spelled a.0.0) (flat_map (λ x. comma ∷ spelled x) b.0.0) tokens a.0.1 b.0.1 first.0 others.0, and_from (form a.0.0) _ first.1 others.1)
+      (begins_then (spelled a.0.0) (flat_map (λ x. comma ∷ spelled x) b.0.0) tokens a.0.1 b.0.1 first.0 others.0, and_from (form a.0.0) _ first.1 others.1)
 
   follows_first : (xs : List A) (tokens rest : List Lexed) → BeginsWith (flat_map (λ x. comma ∷ spelled x) xs) tokens rest → begins_with is_symbol_token rest ≡ true → begins_with is_symbol_token tokens ≡ true
   follows_first [] tokens rest h f = rw h f

@@ -29,7 +29,7 @@ placed_takes tokens found e =
     let tc = one_takes (is_mark 59) semicolon b.0.1 c.0 (mark_test 59) c.1 in
     let made : Placed × List Lexed = (record { line = a.0; statement = b.0.0 }, c.0) in
     subst (λ (f : Placed × List Lexed). SpellsPlaced f.0 tokens f.1) (some_is made found c.2)
-      (record { form = tb.1; spelled = begins_then (statement_tokens b.0.0) (semicolon ∷ []) tokens b.0.1 c.0 tb.0 tc; line = a.1 })
+    (record { form = tb.1; spelled = begins_then (statement_tokens b.0.0) (semicolon ∷ []) tokens b.0.1 c.0 tb.0 tc; line = a.1 })
 
 placed_again : (placed : Placed) (tokens rest : List Lexed) → SpellsPlaced placed tokens rest → placed_at tokens ≡ Some (placed, rest)
 unfolding placed_at
@@ -80,12 +80,13 @@ setup_takes : (tokens : List Lexed) (found : List Placed × List Lexed) → setu
 unfolding setup_at
 setup_takes tokens found e =
     elim (chosen (begins_with is_setup tokens) (behind_one is_setup tokens >>= λ rest. statements_at rest) (Some ([], tokens)) (Some found) e) [
-    | inl g ↦
-      let a = bind_some (behind_one is_setup tokens) (λ rest. statements_at rest) found g.1 in
-      inr (a.0, one_takes is_setup Setup tokens a.0 setup_test a.1, statements_take a.0 found a.2)
-    | inr g ↦
-      let made : List Placed × List Lexed = ([], tokens) in
-      subst (λ (f : List Placed × List Lexed). SpellsSetup f.0 tokens f.1) (some_is made found g.1) (inl (refl, refl)) ]
+      | inl g ↦
+          let a = bind_some (behind_one is_setup tokens) (λ rest. statements_at rest) found g.1 in
+          inr (a.0, one_takes is_setup Setup tokens a.0 setup_test a.1, statements_take a.0 found a.2)
+      | inr g ↦
+          let made : List Placed × List Lexed = ([], tokens) in
+          subst (λ (f : List Placed × List Lexed). SpellsSetup f.0 tokens f.1) (some_is made found g.1) (inl (refl, refl))
+    ]
 
 ended_is : {A : Type 0} (x y : A) (tokens : List Lexed) → ended x tokens ≡ Some y → (tokens ≡ []) × (x ≡ y)
 ended_is x y [] e = (refl, some_is x y e)
@@ -137,12 +138,13 @@ behind_setup (session ∷ second ∷ others) tokens h = absurd h
 setup_again : (setup : List Placed) (tokens rest : List Lexed) → SpellsSetup setup tokens rest → IsBehindSetup rest → setup_at tokens ≡ Some (setup, rest)
 unfolding setup_at
 setup_again setup tokens rest h behind = elim h [
-    | inl g ↦ rw (g.0, g.1) (cond-false (begins_with is_setup rest) _ _ behind.other)
-    | inr g ↦
+  | inl g ↦ rw (g.0, g.1) (cond-false (begins_with is_setup rest) _ _ behind.other)
+  | inr g ↦
       let a = one_again is_setup Setup [] tokens g.0 setup_test g.1 in
       let first = first_is is_setup Setup [] tokens g.0 g.1 in
       let all = statements_again setup g.0 rest g.2 behind.ends in
-      cond-true (begins_with is_setup tokens) _ _ first ∙ (ap (λ (o : Option (List Lexed)). o >>= λ rest. statements_at rest) (a.1 ∙ ap (λ (x : List Lexed). Some x) a.2) ∙ all) ]
+      cond-true (begins_with is_setup tokens) _ _ first ∙ (ap (λ (o : Option (List Lexed)). o >>= λ rest. statements_at rest) (a.1 ∙ ap (λ (x : List Lexed). Some x) a.2) ∙ all)
+]
 
 pub script_takes : (tokens : List Lexed) (script : Script) → script_at tokens ≡ Some script → Spells tokens script
 unfolding script_at
@@ -151,7 +153,7 @@ script_takes tokens script e =
     let b = bind_some (sessions_at a.0.1) (λ sessions. Some (record { setup = a.0.0; sessions = sessions; schedule = None })) script a.2 in
     let made : Script = record { setup = a.0.0; sessions = b.0; schedule = None } in
     subst (λ (s : Script). Spells tokens s) (some_is made script b.2)
-      (record { sessions = a.0.1; setup_part = setup_takes tokens a.0 a.1; sessions_part = sessions_take a.0.1 b.0 b.1; schedule_part = refl })
+    (record { sessions = a.0.1; setup_part = setup_takes tokens a.0 a.1; sessions_part = sessions_take a.0.1 b.0 b.1; schedule_part = refl })
 
 pub script_again : (tokens : List Lexed) (script : Script) → Spells tokens script → script_at tokens ≡ Some script
 unfolding script_at

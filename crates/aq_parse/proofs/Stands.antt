@@ -78,7 +78,8 @@ number_is_none name number (placed ∷ others) only = head placed.statement othe
         → is_none (cond (is_named name (table_from statement)) (Some number) (position_from (is_named name) (number + 1) (tables_of others))) ≡ is_none (option_or (created name statement) (items_named others name))
     head (CreateTable table items) others only rest = elim (same_text table name) as (λ v. is_none (cond v (Some number) (position_from (is_named name) (number + 1) (tables_of others))) ≡ is_none (option_or (cond v (Some items) None) (items_named others name))) [
       | true ↦ refl
-      | false ↦ rest only ]
+      | false ↦ rest only
+    ]
     head (Insert table rows) others only rest = absurd cc
 
 rows_are : (name : Text) (rows : List Row) (earlier : List Placed) → list_all (λ placed. is_create placed.statement) earlier ≡ true
@@ -91,18 +92,21 @@ rows_are name rows (placed ∷ others) only = head placed.statement others only 
         → rows_fit (cond (is_named name (table_from statement)) (Some (table_from statement)) (find (is_named name) (tables_of others))) rows ≡ rows_kept (option_or (created name statement) (items_named others name)) rows
     head (CreateTable table items) others only rest = elim (same_text table name) as (λ v. rows_fit (cond v (Some (record { name = table; cols = map column_of items })) (find (is_named name) (tables_of others))) rows ≡ rows_kept (option_or (cond v (Some items) None) (items_named others name)) rows) [
       | true ↦ rw length-map refl
-      | false ↦ rest only ]
+      | false ↦ rest only
+    ]
     head (Insert table rows') others only rest = absurd cc
 
 found_is : (name : Text) (cat : Catalog) → table_named cat name ≡ find (is_named name) cat.tables
 found_is name cat = (elim (ltb (position_or_len (is_named name) cat.tables) (length cat.tables)) as
     (λ v. ltb (position_or_len (is_named name) cat.tables) (length cat.tables) ≡ v → on v ≡ find (is_named name) cat.tables) [
-    | true ↦ λ e. sym (find_at (is_named name) cat.tables)
-    | false ↦ λ e. sym (find_at (is_named name) cat.tables ∙ slice_get_past cat.tables (position_or_len (is_named name) cat.tables) (ltb-false _ _ e)) ]) refl
+      | true ↦ λ e. sym (find_at (is_named name) cat.tables)
+      | false ↦ λ e. sym (find_at (is_named name) cat.tables ∙ slice_get_past cat.tables (position_or_len (is_named name) cat.tables) (ltb-false _ _ e))
+    ]) refl
   where
     number : Option ℕ → Option Table
     number None = None
     number (Some n) = slice_get cat.tables n
+
     on : Bool → Option Table
     on v = number (cond v (Some (position_or_len (is_named name) cat.tables)) None)
 
@@ -118,8 +122,9 @@ has_key keys number = list_any (λ key. key.table == number) keys
 is_some_any : (number : ℕ) (keys : List UniqueKey) → is_some (find (λ key. key.table == number) keys) ≡ has_key keys number
 is_some_any number [] = refl
 is_some_any number (key ∷ keys) = elim (key.table == number) as (λ v. is_some (cond v (Some key) (find (λ key. key.table == number) keys)) ≡ (v || has_key keys number)) [
-    | true ↦ refl
-    | false ↦ is_some_any number keys ]
+  | true ↦ refl
+  | false ↦ is_some_any number keys
+]
 
 key_there : (number : ℕ) (table : Text) (col : ℕ) (constraint : Option ColumnConstraint) → has_key (key_of number table col constraint) number ≡ is_primary constraint
 key_there number table col None = refl
@@ -170,15 +175,16 @@ keyed_is name number keys (placed ∷ others) only same = head placed.statement 
         → (list_all (λ placed. is_create placed.statement) others ≡ true → ((other : ℕ) → number + 1 ≤ other → has_key keys other ≡ has_key (keys_from (number + 1) others) other) → keyed keys (position_from (is_named name) (number + 1) (tables_of others)) ≡ has_primary (items_named others name))
         → keyed keys (cond (is_named name (table_from statement)) (Some number) (position_from (is_named name) (number + 1) (tables_of others))) ≡ has_primary (option_or (created name statement) (items_named others name))
     head (CreateTable table items) only same rest =
-      let later : (other : ℕ) → number + 1 ≤ other → has_key keys other ≡ has_key (keys_from (number + 1) others) other = λ other le.
-            let apart : number ≡ other → ⊥ = λ e. omega (arith, e) in
-            same other (omega arith) ∙ (list_any-append (λ key. key.table == other) (item_keys number table 0 items) (keys_from (number + 1) others) ∙ rw (keys_apart number other table 0 items apart) refl) in
-      let own : has_key keys number ≡ list_any (λ item. is_primary item.constraint) items =
-            same number (omega arith) ∙ (list_any-append (λ key. key.table == number) (item_keys number table 0 items) (keys_from (number + 1) others)
-            ∙ rw (keys_there number table 0 items, keys_later (number + 1) number others (omega arith)) (or_false _)) in
-      elim (same_text table name) as (λ v. keyed keys (cond v (Some number) (position_from (is_named name) (number + 1) (tables_of others))) ≡ has_primary (option_or (cond v (Some items) None) (items_named others name))) [
-      | true ↦ own
-      | false ↦ rest only later ]
+        let later : (other : ℕ) → number + 1 ≤ other → has_key keys other ≡ has_key (keys_from (number + 1) others) other = λ other le.
+        let apart : number ≡ other → ⊥ = λ e. omega (arith, e) in
+        same other (omega arith) ∙ (list_any-append (λ key. key.table == other) (item_keys number table 0 items) (keys_from (number + 1) others) ∙ rw (keys_apart number other table 0 items apart) refl) in
+        let own : has_key keys number ≡ list_any (λ item. is_primary item.constraint) items =
+        same number (omega arith) ∙ (list_any-append (λ key. key.table == number) (item_keys number table 0 items) (keys_from (number + 1) others)
+        ∙ rw (keys_there number table 0 items, keys_later (number + 1) number others (omega arith)) (or_false _)) in
+        elim (same_text table name) as (λ v. keyed keys (cond v (Some number) (position_from (is_named name) (number + 1) (tables_of others))) ≡ has_primary (option_or (cond v (Some items) None) (items_named others name))) [
+          | true ↦ own
+          | false ↦ rest only later
+        ]
     head (Insert table rows) only same rest = absurd cc
 
 referred_is : (name : Text) (keys : List UniqueKey) (number : Option ℕ)
@@ -366,10 +372,10 @@ created_stands earlier cat line table items stands kept =
     let made = stands.made in
     let number_is : number ≡ length earlier = tables_len earlier cat made in
     let tables : two.tables ≡ tables_of (earlier ++ placed ∷ []) =
-      added.tables ∙ (ap (λ (ts : List Table). ts ++ record { name = table; cols = map column_of items } ∷ []) made.tables ∙ sym (map-append (λ (placed : Placed). table_from placed.statement) earlier (placed ∷ []))) in
+    added.tables ∙ (ap (λ (ts : List Table). ts ++ record { name = table; cols = map column_of items } ∷ []) made.tables ∙ sym (map-append (λ (placed : Placed). table_from placed.statement) earlier (placed ∷ []))) in
     let keys : two.keys ≡ keys_from 0 (earlier ++ placed ∷ []) =
-      added.keys_are ∙ (ap (λ (ks : List UniqueKey). ks ++ item_keys number table 0 items) made.keys
-      ∙ (ap (λ (n : ℕ). keys_from 0 earlier ++ item_keys n table 0 items) (number_is ∙ sym (zero-add (length earlier))) ∙ sym (keys_from-push 0 earlier placed))) in
+    added.keys_are ∙ (ap (λ (ks : List UniqueKey). ks ++ item_keys number table 0 items) made.keys
+    ∙ (ap (λ (n : ℕ). keys_from 0 earlier ++ item_keys n table 0 items) (number_is ∙ sym (zero-add (length earlier))) ∙ sym (keys_from-push 0 earlier placed))) in
     let then : IsMadeBy (earlier ++ placed ∷ []) two = record { only = all_create-push earlier placed made.only refl; tables = tables; keys = keys } in
     let there = columns_there earlier placed two then table items (columns_of_kept earlier table items kept) in
     let refs = references_added number table 0 items two there in
@@ -396,7 +402,7 @@ sets_up_created earlier cat line table items others stands later true kept =
     record {
       same = ap (λ (b : Bool). b && setup_kept (earlier ++ placed ∷ []) others) kept ∙ (rest.same ∙ sym (ap (λ (b : Bool). b && can_set_up (creates table items cat) others) can));
       stands = λ h. subst (λ (ps : List Placed). Stands ps (setup_from (creates table items cat) others)) (append_assoc earlier (placed ∷ []) others)
-        (rest.stands (sym (ap (λ (b : Bool). b && setup_kept (earlier ++ placed ∷ []) others) kept) ∙ h));
+          (rest.stands (sym (ap (λ (b : Bool). b && setup_kept (earlier ++ placed ∷ []) others) kept) ∙ h));
     }
 sets_up_created earlier cat line table items others stands later false kept =
     let placed : Placed = record { line = line; statement = CreateTable table items } in
@@ -411,11 +417,11 @@ sets_up : (earlier setup : List Placed) (cat : Catalog) → Stands earlier cat �
 sets_up earlier [] cat stands = record { same = refl; stands = λ h. subst (λ (ps : List Placed). Stands ps cat) (sym (append-nil earlier)) stands }
 sets_up earlier (placed ∷ others) cat stands =
     head placed.line placed.statement
-      (λ table items. sets_up (earlier ++ record { line = placed.line; statement = CreateTable table items } ∷ []) others (creates table items cat))
+    (λ table items. sets_up (earlier ++ record { line = placed.line; statement = CreateTable table items } ∷ []) others (creates table items cat))
   where
     head : (line : ℕ) (statement : Statement)
         → ((table : Text) (items : List ColumnItem) → Stands (earlier ++ record { line = line; statement = CreateTable table items } ∷ []) (creates table items cat)
-          → SetsUp (earlier ++ record { line = line; statement = CreateTable table items } ∷ []) others (creates table items cat))
+        → SetsUp (earlier ++ record { line = line; statement = CreateTable table items } ∷ []) others (creates table items cat))
         → SetsUp earlier (record { line = line; statement = statement } ∷ others) cat
     head line (CreateTable table items) later = sets_up_created earlier cat line table items others stands (later table items) (create_kept earlier table items) refl
     head line (Insert table rows) later = record { same = refl; stands = λ h. absurd cc }
@@ -482,5 +488,5 @@ unfolding script_kept in_order as_defined
 script_kept_is script =
     let sets = sets_up [] script.setup no_tables nothing_stands in
     same_conditions (is_none script.schedule) (nat_le (length script.sessions) 1) (nat_le (statements_in script) 65536) (nat_le (sum_by rows_in_session script.sessions) 1000)
-      (setup_kept [] script.setup) (can_set_up no_tables script.setup) (list_all (session_kept script.setup) script.sessions) (list_all (session_fits (catalog_of script)) script.sessions)
-      sets.same (λ kept. sessions_same script.setup (catalog_of script) (sets.stands kept).made script.sessions)
+    (setup_kept [] script.setup) (can_set_up no_tables script.setup) (list_all (session_kept script.setup) script.sessions) (list_all (session_fits (catalog_of script)) script.sessions)
+    sets.same (λ kept. sessions_same script.setup (catalog_of script) (sets.stands kept).made script.sessions)

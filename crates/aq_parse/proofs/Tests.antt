@@ -25,22 +25,28 @@ none_is_not y e = absurd cc
 -- a blank is one of four bytes
 blank_is : (byte : ℕ) → is_blank byte ≡ true → (byte ≡ 32) ⊎ ((byte ≡ 9) ⊎ ((byte ≡ 13) ⊎ (byte ≡ 10)))
 blank_is byte h = elim (or_cases (eqb byte 32 || eqb byte 9 || eqb byte 13) (eqb byte 10) h) [
-    | inl g ↦ elim (or_cases (eqb byte 32 || eqb byte 9) (eqb byte 13) g) [
-      | inl f ↦ elim (or_cases (eqb byte 32) (eqb byte 9) f) [
-        | inl e ↦ inl (eqb-true byte 32 e)
-        | inr e ↦ inr (inl (eqb-true byte 9 e)) ]
-      | inr e ↦ inr (inr (inl (eqb-true byte 13 e))) ]
-    | inr e ↦ inr (inr (inr (eqb-true byte 10 e))) ]
+  | inl g ↦ elim (or_cases (eqb byte 32 || eqb byte 9) (eqb byte 13) g) [
+    | inl f ↦ elim (or_cases (eqb byte 32) (eqb byte 9) f) [
+      | inl e ↦ inl (eqb-true byte 32 e)
+      | inr e ↦ inr (inl (eqb-true byte 9 e))
+    ]
+    | inr e ↦ inr (inr (inl (eqb-true byte 13 e)))
+  ]
+  | inr e ↦ inr (inr (inr (eqb-true byte 10 e)))
+]
 
 -- a symbol is one of four bytes
 symbol_is : (byte : ℕ) → is_symbol byte ≡ true → (byte ≡ 40) ⊎ ((byte ≡ 41) ⊎ ((byte ≡ 44) ⊎ (byte ≡ 59)))
 symbol_is byte h = elim (or_cases (eqb byte 40 || eqb byte 41 || eqb byte 44) (eqb byte 59) h) [
-    | inl g ↦ elim (or_cases (eqb byte 40 || eqb byte 41) (eqb byte 44) g) [
-      | inl f ↦ elim (or_cases (eqb byte 40) (eqb byte 41) f) [
-        | inl e ↦ inl (eqb-true byte 40 e)
-        | inr e ↦ inr (inl (eqb-true byte 41 e)) ]
-      | inr e ↦ inr (inr (inl (eqb-true byte 44 e))) ]
-    | inr e ↦ inr (inr (inr (eqb-true byte 59 e))) ]
+  | inl g ↦ elim (or_cases (eqb byte 40 || eqb byte 41) (eqb byte 44) g) [
+    | inl f ↦ elim (or_cases (eqb byte 40) (eqb byte 41) f) [
+      | inl e ↦ inl (eqb-true byte 40 e)
+      | inr e ↦ inr (inl (eqb-true byte 41 e))
+    ]
+    | inr e ↦ inr (inr (inl (eqb-true byte 44 e)))
+  ]
+  | inr e ↦ inr (inr (inr (eqb-true byte 59 e)))
+]
 
 -- a blank begins no word, and is neither a digit nor a symbol
 pub record BeginsNothing (byte : ℕ) : Type 0 where
@@ -50,12 +56,15 @@ pub record BeginsNothing (byte : ℕ) : Type 0 where
 
 blank_begins_nothing : (byte : ℕ) → is_blank byte ≡ true → BeginsNothing byte
 blank_begins_nothing byte h = elim (blank_is byte h) [
+  | inl e ↦ rw e (record { word = refl; digit = refl; symbol = refl })
+  | inr f ↦ elim f [
     | inl e ↦ rw e (record { word = refl; digit = refl; symbol = refl })
-    | inr f ↦ elim f [
+    | inr g ↦ elim g [
       | inl e ↦ rw e (record { word = refl; digit = refl; symbol = refl })
-      | inr g ↦ elim g [
-        | inl e ↦ rw e (record { word = refl; digit = refl; symbol = refl })
-        | inr e ↦ rw e (record { word = refl; digit = refl; symbol = refl }) ] ] ]
+      | inr e ↦ rw e (record { word = refl; digit = refl; symbol = refl })
+    ]
+  ]
+]
 
 not_blank : (byte : ℕ) → (is_blank byte ≡ true → ⊥) → is_blank byte ≡ false
 not_blank byte h = elim (cases_Bool (is_blank byte)) [ inl e ↦ absurd (h e) | inr e ↦ e ]
@@ -71,12 +80,15 @@ symbol_not_blank byte h = not_blank byte (λ e. both_ways _ (blank_begins_nothin
 
 pub symbol_begins_no_word : (byte : ℕ) → is_symbol byte ≡ true → (begins_word (lower byte) ≡ false) × (is_digit byte ≡ false)
 symbol_begins_no_word byte h = elim (symbol_is byte h) [
+  | inl e ↦ rw e (refl, refl)
+  | inr f ↦ elim f [
     | inl e ↦ rw e (refl, refl)
-    | inr f ↦ elim f [
+    | inr g ↦ elim g [
       | inl e ↦ rw e (refl, refl)
-      | inr g ↦ elim g [
-        | inl e ↦ rw e (refl, refl)
-        | inr e ↦ rw e (refl, refl) ] ] ]
+      | inr e ↦ rw e (refl, refl)
+    ]
+  ]
+]
 
 pub digit_begins_no_word : (byte : ℕ) → is_digit byte ≡ true → begins_word (lower byte) ≡ false
 digit_begins_no_word byte h = grind (arith, nat_tests)

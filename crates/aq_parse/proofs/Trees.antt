@@ -69,7 +69,7 @@ row_takes tokens found e =
     let tc = one_takes (is_mark 41) closing b.0.1 c.0 (mark_test 41) c.1 in
     let made : Row × List Lexed = (b.0.0, c.0) in
     subst (λ (f : Row × List Lexed). IsTaken row_tokens (are_some is_literal) tokens f) (some_is made found c.2)
-      (begins_then (opening ∷ []) (with_commas value_tokens b.0.0 ++ closing ∷ []) tokens a.0 c.0 ta (begins_then (with_commas value_tokens b.0.0) (closing ∷ []) a.0 b.0.1 c.0 tb.0 tc), tb.1)
+    (begins_then (opening ∷ []) (with_commas value_tokens b.0.0 ++ closing ∷ []) tokens a.0 c.0 ta (begins_then (with_commas value_tokens b.0.0) (closing ∷ []) a.0 b.0.1 c.0 tb.0 tc), tb.1)
 
 row_again : (row : Row) (tokens rest : List Lexed) → BeginsWith (row_tokens row) tokens rest → are_some is_literal row ≡ true → begins_with is_symbol_token rest ≡ true → row_at tokens ≡ Some (row, rest)
 unfolding row_at
@@ -96,26 +96,28 @@ constraint_takes tokens found e =
     let references : List Lexed → Option (Option ColumnConstraint × List Lexed) = λ table. name_at table >>= λ parent. Some (Some (References parent.0), parent.1) in
     let second : Option (Option ColumnConstraint × List Lexed) = cond (begins_with (is_keyword (codes "references")) tokens) (behind_one (is_keyword (codes "references")) tokens >>= references) (Some (None, tokens)) in
     elim (chosen (begins_with (is_keyword (codes "primary")) tokens) (behind_one (is_keyword (codes "primary")) tokens >>= primary) second (Some found) e) [
-    | inl g ↦
-      let a = bind_some (behind_one (is_keyword (codes "primary")) tokens) primary found g.1 in
-      let b = bind_some (behind_one (is_keyword (codes "key")) a.0) (λ rest. Some (Some PrimaryKey, rest)) found a.2 in
-      let ta = one_takes (is_keyword (codes "primary")) (Word (codes "primary")) tokens a.0 (keyword_test (codes "primary")) a.1 in
-      let tb = one_takes (is_keyword (codes "key")) (Word (codes "key")) a.0 b.0 (keyword_test (codes "key")) b.1 in
-      let made : Option ColumnConstraint × List Lexed = (Some PrimaryKey, b.0) in
-      subst (λ (f : Option ColumnConstraint × List Lexed). BeginsWith (constraint_tokens f.0) tokens f.1) (some_is made found b.2)
-        (begins_then (Word (codes "primary") ∷ []) (Word (codes "key") ∷ []) tokens a.0 b.0 ta tb)
-    | inr g ↦ elim (chosen (begins_with (is_keyword (codes "references")) tokens) (behind_one (is_keyword (codes "references")) tokens >>= references) (Some (None, tokens)) (Some found) g.1) [
-      | inl k ↦
-        let a = bind_some (behind_one (is_keyword (codes "references")) tokens) references found k.1 in
-        let b = bind_some (name_at a.0) (λ parent. Some (Some (References parent.0), parent.1)) found a.2 in
-        let ta = one_takes (is_keyword (codes "references")) (Word (codes "references")) tokens a.0 (keyword_test (codes "references")) a.1 in
-        let tb = name_takes a.0 b.0 b.1 in
-        let made : Option ColumnConstraint × List Lexed = (Some (References b.0.0), b.0.1) in
-        subst (λ (f : Option ColumnConstraint × List Lexed). BeginsWith (constraint_tokens f.0) tokens f.1) (some_is made found b.2)
-          (begins_then (Word (codes "references") ∷ []) (Word b.0.0 ∷ []) tokens a.0 b.0.1 ta tb)
-      | inr k ↦
-        let made : Option ColumnConstraint × List Lexed = (None, tokens) in
-        subst (λ (f : Option ColumnConstraint × List Lexed). BeginsWith (constraint_tokens f.0) tokens f.1) (some_is made found k.1) refl ] ]
+      | inl g ↦
+          let a = bind_some (behind_one (is_keyword (codes "primary")) tokens) primary found g.1 in
+          let b = bind_some (behind_one (is_keyword (codes "key")) a.0) (λ rest. Some (Some PrimaryKey, rest)) found a.2 in
+          let ta = one_takes (is_keyword (codes "primary")) (Word (codes "primary")) tokens a.0 (keyword_test (codes "primary")) a.1 in
+          let tb = one_takes (is_keyword (codes "key")) (Word (codes "key")) a.0 b.0 (keyword_test (codes "key")) b.1 in
+          let made : Option ColumnConstraint × List Lexed = (Some PrimaryKey, b.0) in
+          subst (λ (f : Option ColumnConstraint × List Lexed). BeginsWith (constraint_tokens f.0) tokens f.1) (some_is made found b.2)
+          (begins_then (Word (codes "primary") ∷ []) (Word (codes "key") ∷ []) tokens a.0 b.0 ta tb)
+      | inr g ↦ elim (chosen (begins_with (is_keyword (codes "references")) tokens) (behind_one (is_keyword (codes "references")) tokens >>= references) (Some (None, tokens)) (Some found) g.1) [
+        | inl k ↦
+            let a = bind_some (behind_one (is_keyword (codes "references")) tokens) references found k.1 in
+            let b = bind_some (name_at a.0) (λ parent. Some (Some (References parent.0), parent.1)) found a.2 in
+            let ta = one_takes (is_keyword (codes "references")) (Word (codes "references")) tokens a.0 (keyword_test (codes "references")) a.1 in
+            let tb = name_takes a.0 b.0 b.1 in
+            let made : Option ColumnConstraint × List Lexed = (Some (References b.0.0), b.0.1) in
+            subst (λ (f : Option ColumnConstraint × List Lexed). BeginsWith (constraint_tokens f.0) tokens f.1) (some_is made found b.2)
+            (begins_then (Word (codes "references") ∷ []) (Word b.0.0 ∷ []) tokens a.0 b.0.1 ta tb)
+        | inr k ↦
+            let made : Option ColumnConstraint × List Lexed = (None, tokens) in
+            subst (λ (f : Option ColumnConstraint × List Lexed). BeginsWith (constraint_tokens f.0) tokens f.1) (some_is made found k.1) refl
+      ]
+    ]
 
 symbol_is_no_keyword : (word : Text) (token : Token) → is_symbol_token token ≡ true → is_keyword word token ≡ false
 symbol_is_no_keyword word (Word text) e = absurd cc
@@ -132,7 +134,7 @@ constraint_again : (constraint : Option ColumnConstraint) (tokens rest : List Le
 unfolding constraint_at
 constraint_again None tokens rest h follows =
     rw h (cond-false (begins_with (is_keyword (codes "primary")) rest) _ _ (no_keyword_first (codes "primary") rest follows)
-      ∙ cond-false (begins_with (is_keyword (codes "references")) rest) _ _ (no_keyword_first (codes "references") rest follows))
+    ∙ cond-false (begins_with (is_keyword (codes "references")) rest) _ _ (no_keyword_first (codes "references") rest follows))
 constraint_again (Some PrimaryKey) tokens rest h follows =
     let k = h.3 in
     rw (h.2, k.2, k.3) refl
@@ -151,7 +153,7 @@ item_takes tokens found e =
     let tc = constraint_takes b.0 c.0 c.1 in
     let made : ColumnItem × List Lexed = (record { name = a.0.0; kind = kinds.Integer; constraint = c.0.0 }, c.0.1) in
     subst (λ (f : ColumnItem × List Lexed). IsTaken item_tokens (λ item. true) tokens f) (some_is made found c.2)
-      (begins_then (Word a.0.0 ∷ []) (Word (codes "integer") ∷ constraint_tokens c.0.0) tokens a.0.1 c.0.1 ta (begins_then (Word (codes "integer") ∷ []) (constraint_tokens c.0.0) a.0.1 b.0 c.0.1 tb tc), refl)
+    (begins_then (Word a.0.0 ∷ []) (Word (codes "integer") ∷ constraint_tokens c.0.0) tokens a.0.1 c.0.1 ta (begins_then (Word (codes "integer") ∷ []) (constraint_tokens c.0.0) a.0.1 b.0 c.0.1 tb tc), refl)
 
 is_integer : (kind : Kind) → kind ≡ kinds.Integer
 is_integer kinds.Integer = refl
@@ -190,7 +192,7 @@ create_takes tokens found e =
     let table = begins_then (Word (codes "table") ∷ []) (Word c.0.0 ∷ opening ∷ with_commas item_tokens f.0.0 ++ closing ∷ []) a.0 b.0 g.0 tb named in
     let made : Statement × List Lexed = (CreateTable c.0.0 f.0.0, g.0) in
     subst (λ (f : Statement × List Lexed). IsTaken statement_tokens has_form tokens f) (some_is made found g.2)
-      (begins_then (Word (codes "create") ∷ []) (Word (codes "table") ∷ Word c.0.0 ∷ opening ∷ with_commas item_tokens f.0.0 ++ closing ∷ []) tokens a.0 g.0 ta table, tf.1)
+    (begins_then (Word (codes "create") ∷ []) (Word (codes "table") ∷ Word c.0.0 ∷ opening ∷ with_commas item_tokens f.0.0 ++ closing ∷ []) tokens a.0 g.0 ta table, tf.1)
 
 insert_takes : (tokens : List Lexed) (found : Statement × List Lexed) → insert_at tokens ≡ Some found → IsTaken statement_tokens has_form tokens found
 unfolding insert_at
@@ -210,14 +212,15 @@ insert_takes tokens found e =
     let into = begins_then (Word (codes "into") ∷ []) (Word c.0.0 ∷ Word (codes "values") ∷ with_commas row_tokens f.0.0) a.0 b.0 f.0.1 tb named in
     let made : Statement × List Lexed = (Insert c.0.0 f.0.0, f.0.1) in
     subst (λ (f : Statement × List Lexed). IsTaken statement_tokens has_form tokens f) (some_is made found f.2)
-      (begins_then (Word (codes "insert") ∷ []) (Word (codes "into") ∷ Word c.0.0 ∷ Word (codes "values") ∷ with_commas row_tokens f.0.0) tokens a.0 f.0.1 ta into, tf.1)
+    (begins_then (Word (codes "insert") ∷ []) (Word (codes "into") ∷ Word c.0.0 ∷ Word (codes "values") ∷ with_commas row_tokens f.0.0) tokens a.0 f.0.1 ta into, tf.1)
 
 pub statement_takes : (tokens : List Lexed) (found : Statement × List Lexed) → statement_at tokens ≡ Some found → IsTaken statement_tokens has_form tokens found
 unfolding statement_at
 statement_takes tokens found e =
     elim (chosen (begins_with (is_keyword (codes "create")) tokens) (create_at tokens) (insert_at tokens) (Some found) e) [
-    | inl g ↦ create_takes tokens found g.1
-    | inr g ↦ insert_takes tokens found g.1 ]
+      | inl g ↦ create_takes tokens found g.1
+      | inr g ↦ insert_takes tokens found g.1
+    ]
 
 create_again : (table : Text) (items : List ColumnItem) (tokens rest : List Lexed) → BeginsWith (statement_tokens (CreateTable table items)) tokens rest → has_form (CreateTable table items) ≡ true
     → create_at tokens ≡ Some (CreateTable table items, rest)

@@ -47,5 +47,5 @@ tokens_from (suc left) place (byte ∷ bytes) = tokens_from left place bytes
 tokens_from zero place (byte ∷ bytes) =
     if is_blank byte then tokens_from zero (behind_blank byte place) bytes
     else (token_at place.is_first (byte ∷ bytes) >>= λ found.
-      tokens_from (length bytes - length found.1) (behind_token place) bytes >>= λ others.
-      Some (record { token = found.0; line = place.line } ∷ others))
+    tokens_from (length bytes - length found.1) (behind_token place) bytes >>= λ others.
+    Some (record { token = found.0; line = place.line } ∷ others))

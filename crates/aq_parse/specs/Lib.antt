@@ -5,3 +5,4 @@ pub mod Steps
 pub mod Lexing
 pub mod Parsing
 pub mod Conditions
+pub mod Whole

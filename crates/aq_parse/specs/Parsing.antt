@@ -101,10 +101,10 @@ unfoldable pub constraint_at : List Lexed → Option (Option ColumnConstraint ×
 constraint_at tokens =
     if begins_with (is_keyword (codes "primary")) tokens
     then (behind_one (is_keyword (codes "primary")) tokens >>= λ key.
-      behind_one (is_keyword (codes "key")) key >>= λ rest. Some (Some PrimaryKey, rest))
+    behind_one (is_keyword (codes "key")) key >>= λ rest. Some (Some PrimaryKey, rest))
     else (if begins_with (is_keyword (codes "references")) tokens
     then (behind_one (is_keyword (codes "references")) tokens >>= λ table.
-      name_at table >>= λ parent. Some (Some (References parent.0), parent.1))
+    name_at table >>= λ parent. Some (Some (References parent.0), parent.1))
     else Some (None, tokens))
 
 unfoldable pub item_at : List Lexed → Option (ColumnItem × List Lexed)

@@ -8,7 +8,9 @@ ghost use Rattle.aq_base.specs.Scripts.{is_primary, is_reference, rows_in, rows_
 ghost use Rattle.aq_parse.specs.Conditions.{items_named, primaries_in, references_in, has_primary, constraint_kept, column_kept, statement_references, references_before, create_kept, definition_kept, setup_kept, rows_kept, run_kept, session_kept, statements_in, script_kept};
 
 use crate::names::{is_name, same_text};
-use aq_base::{ColumnConstraint, ColumnItem, List, Placed, Row, Script, SessionText, Statement, TextVal};
+use aq_base::{
+    ColumnConstraint, ColumnItem, List, Placed, Row, Script, SessionText, Statement, TextVal,
+};
 
 /// The columns of the first table of a name that statements create.
 fn items_named<'a>(earlier: &'a [Placed], name: &TextVal) -> Option<&'a List<ColumnItem>>

@@ -12,3 +12,6 @@ mod token;
 
 pub use fault::ScriptFault;
 pub use reading::{one_reading, read_script};
+
+#[cfg(test)]
+mod tests;

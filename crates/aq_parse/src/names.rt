@@ -109,9 +109,7 @@ fn is_short(text: &[u8]) -> bool
 fn is_among(text: &[u8], words: &[&str]) -> bool
     ensures { result ≡ list_any (λ word. same_text text.now word.now) words.now }
 {
-    words
-        .iter()
-        .any(|word| same_text(text, word.as_bytes()))
+    words.iter().any(|word| same_text(text, word.as_bytes()))
 }
 
 fn is_reserved(text: &[u8]) -> bool

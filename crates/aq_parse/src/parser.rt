@@ -74,7 +74,13 @@ fn name(tokens: &[Lexed]) -> Read<'_, TextVal>
     ensures { Gives (λ found. (found.0, found.1.now)) result (name_at tokens.now) }
 {
     match tokens {
-        [Lexed { token: Token::Word(text), .. }, rest @ ..] => Ok((text.copy()?, rest)),
+        [
+            Lexed {
+                token: Token::Word(text),
+                ..
+            },
+            rest @ ..,
+        ] => Ok((text.copy()?, rest)),
         _ => Err(ReadFault::NotBuilt),
     }
 }
@@ -83,9 +89,13 @@ fn value(tokens: &[Lexed]) -> Read<'_, Value>
     ensures { Gives (λ found. (found.0, found.1.now)) result (value_at tokens.now) }
 {
     match tokens {
-        [Lexed { token: Token::Integer(number), .. }, rest @ ..] => {
-            Ok((Value::Int(i64::from(*number)), rest))
-        }
+        [
+            Lexed {
+                token: Token::Integer(number),
+                ..
+            },
+            rest @ ..,
+        ] => { Ok((Value::Int(i64::from(*number)), rest)) }
         _ => Err(ReadFault::NotBuilt),
     }
 }
@@ -270,7 +280,13 @@ fn setup(alloc: Global, tokens: &[Lexed]) -> Read<'_, List<Placed>>
     ensures { Gives (λ found. (found.0, found.1.now)) result (setup_at tokens.now) }
 {
     match tokens {
-        [Lexed { token: Token::Setup, .. }, rest @ ..] => statements(alloc, rest),
+        [
+            Lexed {
+                token: Token::Setup,
+                ..
+            },
+            rest @ ..,
+        ] => statements(alloc, rest),
         _ => Ok((List::new(alloc), tokens)),
     }
 }
@@ -279,7 +295,13 @@ fn behind_session(tokens: &[Lexed]) -> Result<&[Lexed], ReadFault>
     ensures { Gives (λ rest. rest.now) result (behind_one is_session tokens.now) }
 {
     match tokens {
-        [Lexed { token: Token::Session, .. }, rest @ ..] => Ok(rest),
+        [
+            Lexed {
+                token: Token::Session,
+                ..
+            },
+            rest @ ..,
+        ] => Ok(rest),
         _ => Err(ReadFault::NotBuilt),
     }
 }

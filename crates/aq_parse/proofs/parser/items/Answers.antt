@@ -17,14 +17,14 @@ returns-in_err-first c =
 pub items-init : goal.items-init
 items-init c =
     rw (c.in_ok-push.ensures.ok, c.new-items.ensures)
-      (first_stands item_tokens (λ item. true) item_at item_reader c.args.tokens.now (c.in_ok-first.first, c.in_ok-first.rest.now) c.in_ok-first.ensures)
+    (first_stands item_tokens (λ item. true) item_at item_reader c.args.tokens.now (c.in_ok-first.first, c.in_ok-first.rest.now) c.in_ok-first.ensures)
 
 pub items-preserved : goal.items-preserved
 items-preserved c =
     let begun : begins_with (is_mark 44) c.items.rest.now ≡ true = sym c.begins_with_mark.ensures ∙ c.items-test.true in
     let next : next_at item_at c.items.rest.now ≡ Some (c.in_ok-next.next, c.in_ok-next.after.now) = next_is item_at c.items.rest.now c.in_ok-behind.behind.now _ c.in_ok-behind.ensures c.in_ok-next.ensures in
     rw c.in_ok-push-2.ensures.ok
-      (goes_on_with (begins_with (is_mark 44)) (next_at item_at) c.items.items c.items.rest.now c.in_ok-next.after.now c.in_ok-next.next _ (next_shortens item_tokens (λ item. true) item_at item_reader) c.items.invariant begun next)
+    (goes_on_with (begins_with (is_mark 44)) (next_at item_at) c.items.items c.items.rest.now c.in_ok-next.after.now c.in_ok-next.next _ (next_shortens item_tokens (λ item. true) item_at item_reader) c.items.invariant begun next)
 
 pub items-smaller : goal.items-smaller
 items-smaller c =

@@ -17,14 +17,14 @@ returns-in_err-first c =
 pub rows-init : goal.rows-init
 rows-init c =
     rw (c.in_ok-push.ensures.ok, c.new-rows.ensures)
-      (first_stands row_tokens (are_some is_literal) row_at row_reader c.args.tokens.now (c.in_ok-first.first, c.in_ok-first.rest.now) c.in_ok-first.ensures)
+    (first_stands row_tokens (are_some is_literal) row_at row_reader c.args.tokens.now (c.in_ok-first.first, c.in_ok-first.rest.now) c.in_ok-first.ensures)
 
 pub rows-preserved : goal.rows-preserved
 rows-preserved c =
     let begun : begins_with (is_mark 44) c.rows.rest.now ≡ true = sym c.begins_with_mark.ensures ∙ c.rows-test.true in
     let next : next_at row_at c.rows.rest.now ≡ Some (c.in_ok-next.next, c.in_ok-next.after.now) = next_is row_at c.rows.rest.now c.in_ok-behind.behind.now _ c.in_ok-behind.ensures c.in_ok-next.ensures in
     rw c.in_ok-push-2.ensures.ok
-      (goes_on_with (begins_with (is_mark 44)) (next_at row_at) c.rows.rows c.rows.rest.now c.in_ok-next.after.now c.in_ok-next.next _ (next_shortens row_tokens (are_some is_literal) row_at row_reader) c.rows.invariant begun next)
+    (goes_on_with (begins_with (is_mark 44)) (next_at row_at) c.rows.rows c.rows.rest.now c.in_ok-next.after.now c.in_ok-next.next _ (next_shortens row_tokens (are_some is_literal) row_at row_reader) c.rows.invariant begun next)
 
 pub rows-smaller : goal.rows-smaller
 rows-smaller c =

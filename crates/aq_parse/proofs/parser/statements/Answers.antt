@@ -12,7 +12,7 @@ pub statements-preserved : goal.statements-preserved
 statements-preserved c =
     let begun : goes_on c.statements.rest.now ≡ true = sym c.goes_on.ensures ∙ c.statements-test.true in
     rw c.in_ok-push.ensures.ok
-      (goes_on_with goes_on placed_at c.statements.statements c.statements.rest.now c.in_ok-next.after.now c.in_ok-next.next _ placed_shortens c.statements.invariant begun c.in_ok-next.ensures)
+    (goes_on_with goes_on placed_at c.statements.statements c.statements.rest.now c.in_ok-next.after.now c.in_ok-next.next _ placed_shortens c.statements.invariant begun c.in_ok-next.ensures)
 
 pub statements-smaller : goal.statements-smaller
 statements-smaller c = placed_shortens c.statements.rest.now (c.in_ok-next.next, c.in_ok-next.after.now) c.in_ok-next.ensures

@@ -17,14 +17,14 @@ returns-in_err-first c =
 pub values-init : goal.values-init
 values-init c =
     rw (c.in_ok-push.ensures.ok, c.new-values.ensures)
-      (first_stands value_tokens is_literal value_at value_reader c.args.tokens.now (c.in_ok-first.first, c.in_ok-first.rest.now) c.in_ok-first.ensures)
+    (first_stands value_tokens is_literal value_at value_reader c.args.tokens.now (c.in_ok-first.first, c.in_ok-first.rest.now) c.in_ok-first.ensures)
 
 pub values-preserved : goal.values-preserved
 values-preserved c =
     let begun : begins_with (is_mark 44) c.values.rest.now ≡ true = sym c.begins_with_mark.ensures ∙ c.values-test.true in
     let next : next_at value_at c.values.rest.now ≡ Some (c.in_ok-next.next, c.in_ok-next.after.now) = next_is value_at c.values.rest.now c.in_ok-behind.behind.now _ c.in_ok-behind.ensures c.in_ok-next.ensures in
     rw c.in_ok-push-2.ensures.ok
-      (goes_on_with (begins_with (is_mark 44)) (next_at value_at) c.values.values c.values.rest.now c.in_ok-next.after.now c.in_ok-next.next _ (next_shortens value_tokens is_literal value_at value_reader) c.values.invariant begun next)
+    (goes_on_with (begins_with (is_mark 44)) (next_at value_at) c.values.values c.values.rest.now c.in_ok-next.after.now c.in_ok-next.next _ (next_shortens value_tokens is_literal value_at value_reader) c.values.invariant begun next)
 
 pub values-smaller : goal.values-smaller
 values-smaller c =
