@@ -10,7 +10,7 @@ use Rattle.aq_parse.specs.declared.token.Lexed.{Lexed}
 use Rattle.aq_parse.specs.Steps.{◌>>=◌}
 use Rattle.aq_parse.specs.Grammar.{BeginsWith}
 use Rattle.aq_parse.specs.Parsing.{is_keyword, is_mark, is_setup, is_session, begins_with, behind_one, name_from, name_at}
-use Rattle.aq_parse.proofs.Tests.{chosen, some_is, none_is_not}
+use Rattle.aq_parse.proofs.Facts.{chosen, some_is, none_is_not}
 
 pub begins_then : (a b : List Token) (tokens middle rest : List Lexed) → BeginsWith a tokens middle → BeginsWith b middle rest → BeginsWith (a ++ b) tokens rest
 begins_then [] b tokens middle rest h k = subst (λ (x : List Lexed). BeginsWith b x rest) (sym h) k

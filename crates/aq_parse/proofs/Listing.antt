@@ -11,7 +11,7 @@ use Rattle.aq_parse.specs.declared.token.Lexed.{Lexed}
 use Rattle.aq_parse.specs.Steps.{◌>>=◌, Fails}
 use Rattle.aq_parse.specs.Grammar.{BeginsWith, with_commas, are_some, comma}
 use Rattle.aq_parse.specs.Parsing.{begins_with, behind_one, is_mark, repeated_at, next_at, listed_at}
-use Rattle.aq_parse.proofs.Tests.{bind_some, chosen, some_is, none_is_not}
+use Rattle.aq_parse.proofs.Facts.{bind_some, chosen, some_is, none_is_not}
 use Rattle.aq_parse.proofs.Fronts.{begins_then, begins_split, begins_length, IsTestOf, mark_test, one_takes, one_again, first_is}
 
 module _ {A : Type 0} (begins : List Lexed → Bool) (element : List Lexed → Option (A × List Lexed)) where

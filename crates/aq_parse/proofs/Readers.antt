@@ -10,7 +10,7 @@ use Rattle.aq_parse.specs.declared.token.Lexed.{Lexed}
 use Rattle.aq_parse.specs.Steps.{◌>>=◌, Fails}
 use Rattle.aq_parse.specs.Grammar.{BeginsWith, with_commas, are_some, comma}
 use Rattle.aq_parse.specs.Parsing.{begins_with, behind_one, is_mark, repeated_at, next_at, listed_at}
-use Rattle.aq_parse.proofs.Tests.{bind_some, some_is}
+use Rattle.aq_parse.proofs.Facts.{bind_some, some_is}
 use Rattle.aq_parse.proofs.Fronts.{begins_then, begins_split, begins_length, mark_test, one_takes, one_again, first_is}
 use Rattle.aq_parse.proofs.Listing.{Shortens, Stands, SpellsEach, IsReadAgain, each_takes, each_again}
 

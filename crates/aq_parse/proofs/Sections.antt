@@ -13,7 +13,7 @@ use Rattle.aq_parse.specs.declared.token.Lexed.{Lexed}
 use Rattle.aq_parse.specs.Steps.{◌>>=◌}
 use Rattle.aq_parse.specs.Grammar.{BeginsWith, semicolon, statement_tokens, has_form, first_line, SpellsPlaced, SpellsStatements, SpellsSetup, SpellsSessions, Spells}
 use Rattle.aq_parse.specs.Parsing.{is_keyword, is_mark, is_setup, is_session, begins_with, behind_one, name_at, repeated_at, statement_at, placed_at, goes_on, statements_at, setup_at, ended, session_at, sessions_at, script_at}
-use Rattle.aq_parse.proofs.Tests.{bind_some, chosen, some_is, none_is_not}
+use Rattle.aq_parse.proofs.Facts.{bind_some, chosen, some_is, none_is_not}
 use Rattle.aq_parse.proofs.Fronts.{begins_then, begins_split, begins_length, mark_test, setup_test, session_test, one_takes, one_again, first_is, name_takes, name_again}
 use Rattle.aq_parse.proofs.Readers.{is_symbol_token}
 use Rattle.aq_parse.proofs.Listing.{Shortens, Stands, SpellsEach, IsReadAgain, each_takes, each_again}

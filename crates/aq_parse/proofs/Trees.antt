@@ -22,7 +22,7 @@ use Rattle.aq_parse.specs.declared.token.Lexed.{Lexed}
 use Rattle.aq_parse.specs.Steps.{◌>>=◌}
 use Rattle.aq_parse.specs.Grammar.{BeginsWith, with_commas, are_some, comma, opening, closing, semicolon, constraint_tokens, item_tokens, value_tokens, row_tokens, statement_tokens, is_literal, has_form}
 use Rattle.aq_parse.specs.Parsing.{is_keyword, is_mark, begins_with, behind_one, name_at, value_from, value_at, listed_at, constraint_at, item_at, row_at, create_at, insert_at, statement_at}
-use Rattle.aq_parse.proofs.Tests.{bind_some, chosen, some_is, none_is_not}
+use Rattle.aq_parse.proofs.Facts.{bind_some, chosen, some_is, none_is_not}
 use Rattle.aq_parse.proofs.Fronts.{begins_then, begins_split, begins_length, keyword_test, mark_test, one_takes, one_again, first_is, name_takes, name_again}
 use Rattle.aq_parse.proofs.Readers.{is_symbol_token, IsReader, listed_takes, listed_again}
 
