@@ -1,8 +1,7 @@
 -- The script that is found in bytes is what they read as, and there is no other.
-use Rattle.std.proofs.Common.{◌≡◌, ℕ, Bool, true, false, cond, List, Option, Some, None, refl, sym, ap, ◌∙◌, subst, inl, inr}
+use Rattle.std.proofs.Common.{◌≡◌, ℕ, cond, List, Some, None, refl, sym, ◌∙◌, subst, inl, inr}
 use Rattle.aq_base.specs.Scripts.{fits_first_language}
 use Rattle.aq_base.specs.declared.script.Script.{Script}
-use Rattle.aq_parse.specs.declared.token.Lexed.{Lexed}
 use Rattle.aq_parse.specs.Steps.{◌>>=◌}
 use Rattle.aq_parse.specs.Tokens.{beginning}
 use Rattle.aq_parse.specs.declared.fault.ScriptFault.{ScriptFault}

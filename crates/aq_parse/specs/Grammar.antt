@@ -2,7 +2,7 @@
 --     script    = [\setup {CREATE TABLE .. ;}] [\session NAME {INSERT .. ;}]
 --     CREATE TABLE table ( item , item )         item = column integer [PRIMARY KEY | REFERENCES table]
 --     INSERT INTO table VALUES ( value , value ) , ( value , value )
-use Rattle.std.specs.Prelude.{◌≡◌, ℕ, ℤ, pos, negsuc, Bool, true, false, not, ◌&&◌, List, [], ◌∷◌, ◌++◌, Option, Some, None, codes, IsTrue, ◌⊎◌}
+use Rattle.std.specs.Prelude.{◌≡◌, ℕ, pos, negsuc, Bool, true, false, ◌&&◌, List, [], ◌∷◌, ◌++◌, Option, Some, None, codes, IsTrue, ◌⊎◌}
 use Rattle.std.specs.List.{list_all, flat_map}
 use Rattle.aq_base.specs.Values.{Row}
 use Rattle.aq_base.specs.declared.value.Value.{Value}

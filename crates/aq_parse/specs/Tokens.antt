@@ -1,7 +1,7 @@
 -- Tokens, and the bytes that are a list of them (PostgreSQL manual, section "Lexical Structure").
 use Rattle.std.specs.Prelude.{◌≡◌, ℕ, ◌+◌, ◌-◌, ◌*◌, ◌≤◌, Bool, true, false, not, ◌&&◌, ◌||◌, ◌==◌, List, [], ◌∷◌, ◌++◌, map, codes, IsTrue, if◌then◌else◌}
 use Rattle.std.specs.List.{fold, list_all}
-use Rattle.aq_base.specs.Names.{Text, is_between, goes_on_in_word, is_word}
+use Rattle.aq_base.specs.Names.{is_between, goes_on_in_word, is_word}
 use Rattle.aq_parse.specs.declared.token.Token.{Token}
 use Rattle.aq_parse.specs.declared.token.Token.TheVariants.{Word, Integer, Symbol, Setup, Session}
 use Rattle.aq_parse.specs.declared.token.Lexed.{Lexed}
