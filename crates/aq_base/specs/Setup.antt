@@ -1,7 +1,6 @@
 -- What the setup statements of a script make, and what its sessions' statements say with numbers for names.
 use Rattle.std.specs.Prelude.{ℕ, ◌+◌, Bool, true, false, ◌==◌, List, [], ◌∷◌, ◌++◌, length, map, Option, Some, None, find, position, unwrap_or, option_map, option_and_then}
 use Rattle.std.specs.List.{filter_map}
-use Rattle.aq_base.specs.Values.{Row}
 use Rattle.aq_base.specs.Names.{Text, same_text, primary_key_name, foreign_key_name}
 use Rattle.aq_base.specs.Catalogs.{Catalog}
 use Rattle.aq_base.specs.declared.catalog.Column.{Column}
@@ -16,6 +15,8 @@ use Rattle.aq_base.specs.declared.script.ColumnConstraint.TheVariants.{PrimaryKe
 use Rattle.aq_base.specs.declared.script.ColumnItem.{ColumnItem}
 use Rattle.aq_base.specs.declared.script.Statement.{Statement}
 use Rattle.aq_base.specs.declared.script.Statement.TheVariants.{CreateTable, Insert}
+use Rattle.aq_base.specs.declared.script.Bound.{Bound}
+use Rattle.aq_base.specs.declared.script.Bound.TheVariants.{InsertRows}
 use Rattle.aq_base.specs.declared.script.Placed.{Placed}
 use Rattle.aq_base.specs.declared.script.SessionText.{SessionText}
 use Rattle.aq_base.specs.declared.script.Script.{Script}
@@ -89,14 +90,10 @@ setup_from cat (placed ∷ others) = setup_from (defines placed.statement cat) o
 abbrev pub catalog_of : Script → Catalog
 catalog_of script = setup_from no_tables script.setup
 
--- a statement of a session, with numbers for names
-pub data Bound : Type 0 where
-  Inserts : (table : ℕ) → (rows : List Row) → Bound
-
 -- what a statement says; none where it is no statement of a session, or its table isn't there
 abbrev pub bound : Catalog → Statement → Option Bound
 bound cat (CreateTable table items) = None
-bound cat (Insert table rows) = option_map (λ number. Inserts number rows) (table_number table cat)
+bound cat (Insert table rows) = option_map (λ number. InsertRows number rows) (table_number table cat)
 
 abbrev pub bound_statements : Catalog → SessionText → List Bound
 bound_statements cat session = filter_map (λ placed. bound cat placed.statement) session.statements

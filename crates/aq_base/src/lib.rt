@@ -18,7 +18,7 @@ pub use list::List;
 pub use numbers::{ColNo, FkNo, RowNo, TabNo};
 pub use reply::ReplyLine;
 pub use script::{
-    ColumnConstraint, ColumnItem, Item, Kind, Placed, Script, SessionText, Statement,
+    Bound, ColumnConstraint, ColumnItem, Item, Kind, Placed, Script, SessionText, Statement,
 };
 pub use std::alloc::AllocError as NoMemory;
 pub use text::TextVal;

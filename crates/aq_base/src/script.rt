@@ -1,4 +1,5 @@
 use crate::list::List;
+use crate::numbers::TabNo;
 use crate::text::TextVal;
 use crate::value::Row;
 
@@ -39,6 +40,13 @@ pub enum Statement {
         table: TextVal,
         rows: List<Row>,
     },
+}
+
+/// A session's statement with numbers in place of names.
+#[derive(Debug, Drop)]
+pub enum Bound {
+    /// INSERT with the rows of its VALUES.
+    InsertRows { table: TabNo, rows: List<Row> },
 }
 
 /// A statement with the line on which it begins, counted from 1.

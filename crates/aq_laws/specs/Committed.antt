@@ -1,0 +1,24 @@
+-- Every committed database keeps the references and the unique keys.
+use Rattle.std.specs.Prelude.{◌≤◌, length, Contains}
+use Rattle.aq_base.specs.Catalogs.{Catalog}
+use Rattle.aq_base.specs.Databases.{Database}
+use Rattle.aq_base.specs.References.{ReferencesHold, KeysAreUnique}
+use Rattle.aq_base.specs.Setup.{Program, program_of}
+use Rattle.aq_base.specs.declared.script.Script.{Script}
+use Rattle.aq_run.specs.States.{State}
+use Rattle.aq_run.specs.Runs.{Schedule, IsSchedule, run}
+
+-- each reference of the database has its parent, and no unique key stands twice
+pub record DatabaseStands (cat : Catalog) (db : Database) : Type 0 where
+  pub references : ReferencesHold cat.fks db
+  pub keys : KeysAreUnique cat.keys db
+
+-- it is so of every database of the history
+abbrev pub DatabasesStand : Program → State → Type 0
+DatabasesStand program st = (db : Database) → Contains st.world.history db → DatabaseStands program.catalog db
+
+-- and in every state of every run of a script with one session at the most
+abbrev pub CommittedDatabasesStand : Type 0
+CommittedDatabasesStand =
+    (script : Script) (schedule : Schedule) → length script.sessions ≤ 1 → IsSchedule (program_of script) schedule →
+    DatabasesStand (program_of script) (run (program_of script) schedule)

@@ -1,0 +1,34 @@
+-- The check that a child row has a parent (PostgreSQL source, ri_triggers.c, RI_FKey_check).
+use Rattle.std.specs.Prelude.{◌≡◌, ℕ, Bool, true, false, ◌==◌, List, Option, Some, None, if◌then◌else◌}
+use Rattle.std.specs.List.{list_any}
+use Rattle.aq_base.specs.Values.{Row, values_at, has_no_null}
+use Rattle.aq_base.specs.Maps.{at}
+use Rattle.aq_base.specs.Databases.{Database, has_key}
+use Rattle.aq_base.specs.Writes.{Write, Writes}
+use Rattle.aq_base.specs.Works.{Event}
+use Rattle.aq_base.specs.declared.catalog.ForeignKey.{ForeignKey}
+use Rattle.aq_outcomes.specs.Faults.{Fault}
+use Rattle.aq_outcomes.specs.Faults.Fault.{Missing}
+
+-- the event's version is still the newest one that the transaction has of the row
+abbrev pub is_live : Event → Option Write → Bool
+is_live event None = false
+is_live event (Some write) = write.number == event.write
+
+-- some row of the parent table has the key
+abbrev pub has_parent : ForeignKey → Row → Database → Bool
+has_parent f key view = list_any (λ entry. has_key f.parent f.parent_cols key entry.1) view
+
+pub data Checked : Type 0 where
+  Passed : Checked
+  Skipped : Checked
+  Violated : (fault : Fault) → Checked
+
+abbrev pub look_for_parent : ForeignKey → Row → Database → Checked
+look_for_parent f key view =
+    if has_no_null key then (if has_parent f key view then Passed else Violated (Missing f key)) else Passed
+
+-- A check of a version that is no longer the newest is skipped. A key with a null passes.
+abbrev pub child_check : ForeignKey → Event → Writes → Database → Checked
+child_check f event writes view =
+    if is_live event (at event.row writes) then look_for_parent f (values_at f.child_cols event.new) view else Skipped
