@@ -1,0 +1,5 @@
+pub mod Givens
+pub mod Versions
+pub mod Shown
+pub mod Orders
+pub mod Found

@@ -1,0 +1,12 @@
+//! The step machine over plain lists in memory: a script and the state of its run.
+#![tactic(auto)]
+
+mod catalog;
+mod checks;
+mod numbers;
+mod replies;
+mod session;
+mod world;
+
+pub use numbers::SessNo;
+pub use replies::Given;

@@ -1,0 +1,100 @@
+ghost use Rattle.std.specs.Prelude.{◌≡◌, ◌&&◌, ◌==◌, map, unwrap_or, option_map};
+ghost use Rattle.std.specs.List.{list_any};
+ghost use Rattle.aq_base.specs.Values.{keys_match, values_at, values_match};
+ghost use Rattle.aq_base.specs.Databases.{has_key};
+ghost use Rattle.aq_base.specs.declared.value.Value.TheVariants.{Null};
+ghost use Rattle.aq_run.specs.States.{last_database};
+ghost use Rattle.aq_machine.specs.Versions.{version_has, with_commit};
+
+use crate::replies::Given;
+use aq_base::{ColNo, List, Row, RowNo, TabNo, Value, value_eq};
+use std::marker::Model;
+
+/// A version of a row, in a transaction's writes or in the history.
+#[derive(Debug, Drop)]
+pub(crate) struct Version {
+    pub(crate) row: RowNo,
+    pub(crate) table: TabNo,
+    pub(crate) values: Row,
+    /// The number of the change that made it.
+    pub(crate) write: u64,
+    /// The number of the commit, once there is one.
+    pub(crate) commit: u64,
+}
+
+/// What all sessions share: the committed versions, the counters and the replies.
+#[derive(Drop)]
+pub(crate) struct World {
+    pub(crate) versions: Vec<Version>,
+    pub(crate) commits: u64,
+    pub(crate) rows: u64,
+    pub(crate) writes: u64,
+    pub(crate) replies: List<Given>,
+}
+
+impl Model for World {
+    ghost use Rattle.std.specs.Prelude.{map};
+    ghost use Rattle.aq_run.specs.States.{World as Seen};
+    ghost use Rattle.aq_machine.specs.Givens.{given_shown};
+    ghost use Rattle.aq_machine.specs.Versions.{databases, Are_committed};
+
+    ghost Value = { Seen };
+
+    ghost view = { λ w. record { history = databases w.commits w.versions.items; rows = w.rows; writes = w.writes; replies = map given_shown w.replies } };
+
+    ghost invariant = { λ w. Are_committed w.commits w.versions.items };
+}
+
+fn cell_matches(cell: Option<&Value>, value: &Value) -> bool
+    ensures { result ≡ values_match (unwrap_or (option_map (λ v. v.now) cell.entry) Null) value.now }
+{
+    match cell {
+        None => false,
+        Some(own) => value_eq(own, value),
+    }
+}
+
+/// Whether a row has these values at the columns, none of them null.
+pub(crate) fn row_has_key(row: &Row, cols: &[ColNo], key: &[Value]) -> bool
+    ensures { result ≡ keys_match (values_at cols.now row.now) key.now }
+{
+    let mut cols_left = cols;
+    let mut values_left = key;
+    'values: while let (Some((col, cols)), Some((value, values))) =
+        (cols_left.split_first(), values_left.split_first())
+    {
+        if !cell_matches(row.get(usize::from(col.get())), value) {
+            return false;
+        }
+        cols_left = cols;
+        values_left = values;
+    }
+    cols_left.is_empty() && values_left.is_empty()
+}
+
+/// Whether one of the versions is in the table and has the key.
+pub(crate) fn some_version_has(versions: &[Version], table: TabNo, cols: &[ColNo], key: &[Value]) -> bool
+    ensures { result ≡ list_any (version_has table cols.now key.now) versions.now }
+{
+    versions
+        .iter()
+        .any(|v| v.table == table && row_has_key(&v.values, cols, key))
+}
+
+/// Gives each version the number of the commit.
+pub(crate) fn set_commit(versions: &mut [Version], commit: u64)
+    ensures { versions.new ≡ map (with_commit commit) versions.old }
+{
+    for v in versions.iter_mut() {
+        v.commit = commit;
+    }
+}
+
+impl World {
+    /// Whether a row of the last database is in the table and has the key.
+    pub(crate) fn has_row(&self, table: TabNo, cols: &[ColNo], key: &[Value]) -> bool
+        ensures { result ≡ list_any (λ entry. has_key table cols.now key.now entry.1) (last_database self.now) }
+    {
+        some_version_has(self.versions.as_slice(), table, cols, key)
+    }
+}
