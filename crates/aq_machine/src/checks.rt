@@ -4,14 +4,16 @@ ghost use Rattle.aq_base.specs.Values.{has_no_null, is_null, values_at};
 ghost use Rattle.aq_base.specs.Databases.{has_key};
 ghost use Rattle.aq_outcomes.specs.Rows.{insert_fault, is_taken};
 ghost use Rattle.aq_outcomes.specs.Faults.Fault.{Duplicate, Missing};
+ghost use Rattle.aq_outcomes.specs.References.{child_check};
 ghost use Rattle.aq_run.specs.States.{latest_view, last_database};
+ghost use Rattle.aq_run.specs.Steps.{check_plan, event_plan};
 ghost use Rattle.aq_machine.specs.Orders.{Rises, keys_of};
-ghost use Rattle.aq_machine.specs.Found.{fault_shown};
+ghost use Rattle.aq_machine.specs.Found.{fault_shown, event_done};
 
 use crate::catalog::Catalog;
-use crate::session::Transaction;
+use crate::session::{Event, Transaction};
 use crate::world::World;
-use aq_base::{ColNo, ForeignKey, Key, NoMemory, Row, TabNo, UniqueKey, Value, key_of};
+use aq_base::{ColNo, Does, ForeignKey, Key, NoMemory, Row, TabNo, UniqueKey, Value, key_of};
 
 /// Why a step is refused, with what it found.
 #[derive(Drop)]
@@ -70,4 +72,36 @@ fn all_are_values(key: &[Value]) -> bool
     ensures { result ≡ has_no_null key.now }
 {
     key.iter().all(is_value)
+}
+
+/// What a foreign key has against the version of an event: no row of the parent table has its values.
+/// A version that is no longer the newest is not looked at, nor is one with a null in the key.
+fn child_fault<'a>(fk: &'a ForeignKey, event: &Event, world: &World, t: &Transaction) -> Result<Option<Fault<'a>>, NoMemory>
+    requires { Rises 0 (keys_of (last_database world.now) t.now.work.writes) world.now.rows }
+    ensures { IfOk result (λ found. check_plan (child_check fk.now event.now t.now.work.writes (latest_view world.now t.now.work)) ≡ event_done (option_map fault_shown found)) }
+{
+    if !t.is_live(event) {
+        return Ok(None);
+    }
+    let values = key_of(&event.new, fk.child_cols.as_slice())?;
+    if !all_are_values(values.as_slice()) || view_has_row(world, t, fk.parent, fk.parent_cols.as_slice(), values.as_slice()) {
+        Ok(None)
+    } else {
+        Ok(Some(Fault::Missing { fk, values }))
+    }
+}
+
+/// What refuses an event, by its trigger.
+pub(crate) fn event_fault<'a>(catalog: &'a Catalog, event: &Event, world: &World, t: &Transaction) -> Result<Option<Fault<'a>>, NoMemory>
+    requires { Rises 0 (keys_of (last_database world.now) t.now.work.writes) world.now.rows }
+    ensures { IfOk result (λ found. event_plan catalog.now world.now t.now.work event.now ≡ event_done (option_map fault_shown found)) }
+{
+    let Some(trigger) = catalog.triggers.get(event.trigger) else {
+        return Ok(None);
+    };
+    let Does::Check(fk) = trigger.does;
+    match catalog.fks.get(usize::from(fk.get())) {
+        None => Ok(None),
+        Some(fk) => child_fault(fk, event, world, t),
+    }
 }

@@ -1,9 +1,15 @@
-ghost use Rattle.std.specs.Prelude.{◌≡◌};
+ghost use Rattle.std.specs.Prelude.{◌≡◌, map, option_map, IfOk};
 ghost use Rattle.std.specs.List.{list_any};
-ghost use Rattle.aq_machine.specs.Versions.{write_has};
+ghost use Rattle.aq_base.specs.Maps.{at};
+ghost use Rattle.aq_outcomes.specs.References.{is_live};
+ghost use Rattle.aq_outcomes.specs.Rows.{insert_events, fires_on, same_op};
+ghost use Rattle.aq_base.specs.declared.catalog.Op.TheVariants.{Insert as On_insert};
+ghost use Rattle.aq_machine.specs.Versions.{write_has, write_entry};
 
+use crate::catalog::Catalog;
 use crate::world::{Version, some_version_has};
-use aq_base::{ColNo, Row, RowNo, TabNo, Value};
+use aq_base::{ColNo, Copies, NoMemory, Op, Row, RowNo, TabNo, Trigger, Value};
+use std::alloc::Global;
 use std::collections::VecDeque;
 use std::marker::Model;
 
@@ -58,7 +64,29 @@ impl Model for Transaction {
     ghost view = { λ t. record { work = record { writes = map write_entry t.writes.items; opened = option_to_list t.level } } };
 }
 
+/// The number of the change that made the newest of the versions of a row.
+fn newest_write(versions: &[Version], row: RowNo) -> Option<u64>
+    ensures { result ≡ option_map (λ write. write.number) (at row (map write_entry versions.now)) }
+{
+    'versions: for v in versions {
+        if v.row == row {
+            return Some(v.write);
+        }
+    }
+    None
+}
+
 impl Transaction {
+    /// Whether the version of the event is still the newest one that the transaction has of the row.
+    pub(crate) fn is_live(&self, event: &Event) -> bool
+        ensures { result ≡ is_live event.now (at event.now.row self.now.work.writes) }
+    {
+        match newest_write(self.writes.as_slice(), event.row) {
+            None => false,
+            Some(write) => write == event.write,
+        }
+    }
+
     /// Whether a row that it wrote is in the table and has the key.
     pub(crate) fn has_row(&self, table: TabNo, cols: &[ColNo], key: &[Value]) -> bool
         ensures { result ≡ list_any (write_has table cols.now key.now) self.now.work.writes }
@@ -106,4 +134,36 @@ impl Model for Session {
     ghost Value = { Seen };
 
     ghost view = { λ s. record { next = s.next; transaction = s.transaction; tasks = map task_shown (option_to_list s.task); ended = s.ended } };
+}
+
+/// The events that a new row queues: one for each trigger of its table that fires on INSERT, in their order.
+/// The error is want of memory.
+pub(crate) fn events_of(alloc: Global, catalog: &Catalog, table: TabNo, row: RowNo, write: u64, values: &Row) -> Result<VecDeque<Event>, NoMemory>
+    ensures { IfOk result (λ events. events.items ≡ insert_events catalog.now table row write values.now) }
+{
+    let mut events = VecDeque::new(alloc);
+    'triggers: for (number, trigger) in catalog.triggers.as_slice().iter().enumerate() {
+        if fires_on_insert(trigger, table) {
+            events.push_back(Event { trigger: number, row, write, new: values.copy()? })?;
+        }
+    }
+    Ok(events)
+}
+
+fn is_insert(op: &Op) -> bool
+    ensures { result ≡ same_op On_insert op.now }
+{
+    matches!(op, Op::Insert)
+}
+
+fn has_insert(ops: &[Op]) -> bool
+    ensures { result ≡ list_any (same_op On_insert) ops.now }
+{
+    ops.iter().any(is_insert)
+}
+
+fn fires_on_insert(trigger: &Trigger, table: TabNo) -> bool
+    ensures { result ≡ fires_on table On_insert trigger.now }
+{
+    trigger.table == table && has_insert(trigger.ops.as_slice())
 }
