@@ -1,3 +1,4 @@
 pub mod Histories
 pub mod Overlays
 pub mod Finds
+pub mod Joins

@@ -1,5 +1,7 @@
 pub mod Givens
 pub mod Versions
 pub mod Shown
+pub mod Runnings
 pub mod Orders
 pub mod Found
+pub mod Behind

@@ -11,7 +11,7 @@ ghost use Rattle.aq_machine.specs.Orders.{Rises, keys_of};
 ghost use Rattle.aq_machine.specs.Found.{fault_shown, event_done};
 
 use crate::catalog::Catalog;
-use crate::session::{Event, Transaction};
+use crate::session::{Event, Running};
 use crate::world::World;
 use aq_base::{ColNo, Does, ForeignKey, Key, NoMemory, Row, TabNo, UniqueKey, Value, key_of};
 
@@ -25,21 +25,21 @@ pub(crate) enum Fault<'a> {
 }
 
 /// Whether a row that the transaction sees is in the table and has the key.
-fn view_has_row(world: &World, t: &Transaction, table: TabNo, cols: &[ColNo], key: &[Value]) -> bool
-    requires { Rises 0 (keys_of (last_database world.now) t.now.work.writes) world.now.rows }
-    ensures { result ≡ list_any (λ entry. has_key table cols.now key.now entry.1) (latest_view world.now t.now.work) }
+fn view_has_row(world: &World, running: &Running, table: TabNo, cols: &[ColNo], key: &[Value]) -> bool
+    requires { Rises 0 (keys_of (last_database world.now) running.now.transaction.work.writes) world.now.rows }
+    ensures { result ≡ list_any (λ entry. has_key table cols.now key.now entry.1) (latest_view world.now running.now.transaction.work) }
 {
-    world.has_row(table, cols, key) || t.has_row(table, cols, key)
+    world.has_row(table, cols, key) || running.has_row(table, cols, key)
 }
 
 /// What a unique key has against a new row: another row of its table with the same values.
-fn key_fault<'a>(key: &'a UniqueKey, world: &World, t: &Transaction, row: &Row) -> Result<Option<Fault<'a>>, NoMemory>
-    requires { Rises 0 (keys_of (last_database world.now) t.now.work.writes) world.now.rows }
+fn key_fault<'a>(key: &'a UniqueKey, world: &World, running: &Running, row: &Row) -> Result<Option<Fault<'a>>, NoMemory>
+    requires { Rises 0 (keys_of (last_database world.now) running.now.transaction.work.writes) world.now.rows }
     ensures { IfOk result (λ found. option_map fault_shown found
-        ≡ (if is_taken (latest_view world.now t.now.work) row.now key.now then Some (Duplicate key.now (values_at key.now.cols row.now)) else None)) }
+        ≡ (if is_taken (latest_view world.now running.now.transaction.work) row.now key.now then Some (Duplicate key.now (values_at key.now.cols row.now)) else None)) }
 {
     let values = key_of(row, key.cols.as_slice())?;
-    if view_has_row(world, t, key.table, key.cols.as_slice(), values.as_slice()) {
+    if view_has_row(world, running, key.table, key.cols.as_slice(), values.as_slice()) {
         Ok(Some(Fault::Duplicate { key, values }))
     } else {
         Ok(None)
@@ -47,14 +47,14 @@ fn key_fault<'a>(key: &'a UniqueKey, world: &World, t: &Transaction, row: &Row) 
 }
 
 /// What refuses a new row: the first unique key of its table that another row has.
-pub(crate) fn insert_fault_of<'a>(catalog: &'a Catalog, world: &World, t: &Transaction, table: TabNo, row: &Row) -> Result<Option<Fault<'a>>, NoMemory>
-    requires { Rises 0 (keys_of (last_database world.now) t.now.work.writes) world.now.rows }
-    ensures { IfOk result (λ found. option_map fault_shown found ≡ insert_fault catalog.now (latest_view world.now t.now.work) table row.now) }
+pub(crate) fn insert_fault_of<'a>(catalog: &'a Catalog, world: &World, running: &Running, table: TabNo, row: &Row) -> Result<Option<Fault<'a>>, NoMemory>
+    requires { Rises 0 (keys_of (last_database world.now) running.now.transaction.work.writes) world.now.rows }
+    ensures { IfOk result (λ found. option_map fault_shown found ≡ insert_fault catalog.now (latest_view world.now running.now.transaction.work) table row.now) }
 {
     let keys = catalog.keys.as_slice();
     'keys: for key in keys {
         if key.table == table {
-            if let Some(fault) = key_fault(key, world, t, row)? {
+            if let Some(fault) = key_fault(key, world, running, row)? {
                 return Ok(Some(fault));
             }
         }
@@ -76,15 +76,15 @@ fn all_are_values(key: &[Value]) -> bool
 
 /// What a foreign key has against the version of an event: no row of the parent table has its values.
 /// A version that is no longer the newest is not looked at, nor is one with a null in the key.
-fn child_fault<'a>(fk: &'a ForeignKey, event: &Event, world: &World, t: &Transaction) -> Result<Option<Fault<'a>>, NoMemory>
-    requires { Rises 0 (keys_of (last_database world.now) t.now.work.writes) world.now.rows }
-    ensures { IfOk result (λ found. check_plan (child_check fk.now event.now t.now.work.writes (latest_view world.now t.now.work)) ≡ event_done (option_map fault_shown found)) }
+fn child_fault<'a>(fk: &'a ForeignKey, event: &Event, world: &World, running: &Running) -> Result<Option<Fault<'a>>, NoMemory>
+    requires { Rises 0 (keys_of (last_database world.now) running.now.transaction.work.writes) world.now.rows }
+    ensures { IfOk result (λ found. check_plan (child_check fk.now event.now running.now.transaction.work.writes (latest_view world.now running.now.transaction.work)) ≡ event_done (option_map fault_shown found)) }
 {
-    if !t.is_live(event) {
+    if !running.is_live(event) {
         return Ok(None);
     }
     let values = key_of(&event.new, fk.child_cols.as_slice())?;
-    if !all_are_values(values.as_slice()) || view_has_row(world, t, fk.parent, fk.parent_cols.as_slice(), values.as_slice()) {
+    if !all_are_values(values.as_slice()) || view_has_row(world, running, fk.parent, fk.parent_cols.as_slice(), values.as_slice()) {
         Ok(None)
     } else {
         Ok(Some(Fault::Missing { fk, values }))
@@ -92,9 +92,9 @@ fn child_fault<'a>(fk: &'a ForeignKey, event: &Event, world: &World, t: &Transac
 }
 
 /// What refuses an event, by its trigger.
-pub(crate) fn event_fault<'a>(catalog: &'a Catalog, event: &Event, world: &World, t: &Transaction) -> Result<Option<Fault<'a>>, NoMemory>
-    requires { Rises 0 (keys_of (last_database world.now) t.now.work.writes) world.now.rows }
-    ensures { IfOk result (λ found. event_plan catalog.now world.now t.now.work event.now ≡ event_done (option_map fault_shown found)) }
+pub(crate) fn event_fault<'a>(catalog: &'a Catalog, event: &Event, world: &World, running: &Running) -> Result<Option<Fault<'a>>, NoMemory>
+    requires { Rises 0 (keys_of (last_database world.now) running.now.transaction.work.writes) world.now.rows }
+    ensures { IfOk result (λ found. event_plan catalog.now world.now running.now.transaction.work event.now ≡ event_done (option_map fault_shown found)) }
 {
     let Some(trigger) = catalog.triggers.get(event.trigger) else {
         return Ok(None);
@@ -102,6 +102,6 @@ pub(crate) fn event_fault<'a>(catalog: &'a Catalog, event: &Event, world: &World
     let Does::Check(fk) = trigger.does;
     match catalog.fks.get(usize::from(fk.get())) {
         None => Ok(None),
-        Some(fk) => child_fault(fk, event, world, t),
+        Some(fk) => child_fault(fk, event, world, running),
     }
 }

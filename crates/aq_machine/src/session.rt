@@ -31,77 +31,13 @@ impl Model for Event {
     ghost view = { λ e. record { trigger = e.trigger; row = e.row; write = e.write; new = e.new } };
 }
 
-/// A query level: the events queued at it, and those of the round in progress, the first one first.
-#[derive(Drop)]
-pub(crate) struct Level {
-    pub(crate) queued: VecDeque<Event>,
-    pub(crate) round: VecDeque<Event>,
-}
-
-impl Model for Level {
-    ghost use Rattle.aq_base.specs.Works.{Opened};
-
-    ghost Value = { Opened };
-
-    ghost view = { λ l. record { queued = l.queued.items; round = l.round.items } };
-}
-
-/// A transaction: its writes in the order of their rows, and its level while one is open.
-#[derive(Drop)]
-pub(crate) struct Transaction {
-    pub(crate) writes: Vec<Version>,
-    pub(crate) level: Option<Level>,
-}
-
-impl Model for Transaction {
-    ghost use Rattle.std.specs.Prelude.{map};
-    ghost use Rattle.std.specs.Option.{option_to_list};
-    ghost use Rattle.aq_run.specs.States.{Transaction as Seen};
-    ghost use Rattle.aq_machine.specs.Versions.{write_entry};
-
-    ghost Value = { Seen };
-
-    ghost view = { λ t. record { work = record { writes = map write_entry t.writes.items; opened = option_to_list t.level } } };
-}
-
-/// The number of the change that made the newest of the versions of a row.
-fn newest_write(versions: &[Version], row: RowNo) -> Option<u64>
-    ensures { result ≡ option_map (λ write. write.number) (at row (map write_entry versions.now)) }
-{
-    'versions: for v in versions {
-        if v.row == row {
-            return Some(v.write);
-        }
-    }
-    None
-}
-
-impl Transaction {
-    /// Whether the version of the event is still the newest one that the transaction has of the row.
-    pub(crate) fn is_live(&self, event: &Event) -> bool
-        ensures { result ≡ is_live event.now (at event.now.row self.now.work.writes) }
-    {
-        match newest_write(self.writes.as_slice(), event.row) {
-            None => false,
-            Some(write) => write == event.write,
-        }
-    }
-
-    /// Whether a row that it wrote is in the table and has the key.
-    pub(crate) fn has_row(&self, table: TabNo, cols: &[ColNo], key: &[Value]) -> bool
-        ensures { result ≡ list_any (write_has table cols.now key.now) self.now.work.writes }
-    {
-        some_version_has(self.writes.as_slice(), table, cols, key)
-    }
-}
-
 /// What a statement answers when it succeeds.
 #[derive(Clone, Copy, Debug, PartialEq, Eq)]
 pub(crate) enum Answer {
     Inserted(u64),
 }
 
-/// What is in progress in a session.
+/// What is left to do of a statement.
 #[derive(Drop)]
 pub(crate) enum Task {
     /// An INSERT with the rows left, and how many were inserted.
@@ -116,24 +52,82 @@ pub(crate) enum Task {
     Committing { answer: Answer },
 }
 
-/// A session: how many statements it has taken, and what it has in progress.
+/// A statement in progress with its transaction: the writes in the order of their rows, the events queued at its
+/// level, and those of the round in progress, the first one first.
+#[derive(Drop)]
+pub(crate) struct Running {
+    pub(crate) writes: Vec<Version>,
+    pub(crate) queued: VecDeque<Event>,
+    pub(crate) round: VecDeque<Event>,
+    pub(crate) task: Task,
+}
+
+impl Model for Running {
+    ghost use Rattle.std.specs.Prelude.{map};
+    ghost use Rattle.aq_machine.specs.Runnings.{In_progress};
+    ghost use Rattle.aq_machine.specs.Versions.{write_entry};
+    ghost use Rattle.aq_machine.specs.Shown.{task_shown, opened_at};
+
+    ghost Value = { In_progress };
+
+    ghost view = { λ r. record {
+        transaction = record { work = record { writes = map write_entry r.writes.items; opened = opened_at r.task r.queued.items r.round.items } };
+        task = task_shown r.task;
+    } };
+}
+
+/// A session: how many statements it has taken, and the one in progress.
 #[derive(Drop)]
 pub(crate) struct Session {
     pub(crate) next: u32,
-    pub(crate) transaction: Option<Transaction>,
-    pub(crate) task: Option<Task>,
+    pub(crate) running: Option<Running>,
     pub(crate) ended: bool,
 }
 
 impl Model for Session {
-    ghost use Rattle.std.specs.Prelude.{map};
+    ghost use Rattle.std.specs.Prelude.{map, option_map};
     ghost use Rattle.std.specs.Option.{option_to_list};
     ghost use Rattle.aq_run.specs.States.{Session as Seen};
-    ghost use Rattle.aq_machine.specs.Shown.{task_shown};
 
     ghost Value = { Seen };
 
-    ghost view = { λ s. record { next = s.next; transaction = s.transaction; tasks = map task_shown (option_to_list s.task); ended = s.ended } };
+    ghost view = { λ s. record {
+        next = s.next;
+        transaction = option_map (λ r. r.transaction) s.running;
+        tasks = map (λ r. r.task) (option_to_list s.running);
+        ended = s.ended;
+    } };
+}
+
+/// The number of the change that made the newest of the versions of a row.
+fn newest_write(versions: &[Version], row: RowNo) -> Option<u64>
+    ensures { result ≡ option_map (λ write. write.number) (at row (map write_entry versions.now)) }
+{
+    'versions: for v in versions {
+        if v.row == row {
+            return Some(v.write);
+        }
+    }
+    None
+}
+
+impl Running {
+    /// Whether the version of the event is still the newest one that the transaction has of the row.
+    pub(crate) fn is_live(&self, event: &Event) -> bool
+        ensures { result ≡ is_live event.now (at event.now.row self.now.transaction.work.writes) }
+    {
+        match newest_write(self.writes.as_slice(), event.row) {
+            None => false,
+            Some(write) => write == event.write,
+        }
+    }
+
+    /// Whether a row that it wrote is in the table and has the key.
+    pub(crate) fn has_row(&self, table: TabNo, cols: &[ColNo], key: &[Value]) -> bool
+        ensures { result ≡ list_any (write_has table cols.now key.now) self.now.transaction.work.writes }
+    {
+        some_version_has(self.writes.as_slice(), table, cols, key)
+    }
 }
 
 /// The events that a new row queues: one for each trigger of its table that fires on INSERT, in their order.

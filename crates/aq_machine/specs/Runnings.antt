@@ -1,0 +1,26 @@
+-- A statement in progress, and how it stands in a session.
+use Rattle.std.specs.Prelude.{ℕ, [], ◌∷◌, Option, Some, None}
+use Rattle.aq_base.specs.Catalogs.{Catalog}
+use Rattle.aq_base.specs.declared.script.Bound.{Bound}
+use Rattle.aq_run.specs.States.{Task, Transaction, Session, World}
+use Rattle.aq_run.specs.Effects.{Scene, effects}
+use Rattle.aq_run.specs.Steps.{Plan, task_plan, effects_of_plan}
+
+-- a task, and the transaction over which it stands
+pub record In_progress : Type 0 where
+  pub transaction : Transaction
+  pub task : Task
+
+abbrev pub with_running : In_progress → Session → Session
+with_running running me = record me { transaction = Some running.transaction; tasks = running.task ∷ [] }
+
+abbrev pub scene : World → Session → Scene
+scene world me = record { world = world; me = me }
+
+-- a plan that is carried out
+abbrev pub carried_out : Catalog → ℕ → Plan → Scene → Scene
+carried_out cat s plan before = effects cat s (effects_of_plan cat plan) before
+
+-- what a session plans that has the statement in progress
+abbrev pub running_plan : Catalog → World → In_progress → Session → Plan
+running_plan cat world running me = task_plan cat world (with_running running me) None (running.task ∷ [])
