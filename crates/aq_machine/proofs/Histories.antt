@@ -9,7 +9,7 @@ use Rattle.aq_run.specs.States.{last_of}
 use Rattle.aq_machine.specs.declared.world.Version.{Version}
 use Rattle.aq_machine.specs.Versions.{stored_entry, with_commit, version_has, database_at, databases, Are_committed}
 
-last_of-push : (xs : List Database) (y : Database) → last_of (xs ++ y ∷ []) ≡ y
+pub last_of-push : (xs : List Database) (y : Database) → last_of (xs ++ y ∷ []) ≡ y
 last_of-push [] y = refl
 last_of-push (x ∷ []) y = refl
 last_of-push (x ∷ next ∷ xs) y = last_of-push (next ∷ xs) y

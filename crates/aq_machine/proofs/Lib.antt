@@ -2,3 +2,4 @@ pub mod Histories
 pub mod Overlays
 pub mod Finds
 pub mod Joins
+pub mod Commits

@@ -1,10 +1,11 @@
 -- A statement in progress, and how it stands in a session.
-use Rattle.std.specs.Prelude.{ℕ, [], ◌∷◌, Option, Some, None}
+use Rattle.std.specs.Prelude.{ℕ, ◌+◌, Bool, true, [], ◌∷◌, Option, Some, None}
 use Rattle.aq_base.specs.Catalogs.{Catalog}
 use Rattle.aq_base.specs.declared.script.Bound.{Bound}
 use Rattle.aq_run.specs.States.{Task, Transaction, Session, World}
+use Rattle.aq_run.specs.States.Task.{Rows}
 use Rattle.aq_run.specs.Effects.{Scene, effects}
-use Rattle.aq_run.specs.Steps.{Plan, task_plan, effects_of_plan}
+use Rattle.aq_run.specs.Steps.{Plan, task_plan, effects_of_plan, operation_of, targets_of}
 
 -- a task, and the transaction over which it stands
 pub record In_progress : Type 0 where
@@ -24,3 +25,13 @@ carried_out cat s plan before = effects cat s (effects_of_plan cat plan) before
 -- what a session plans that has the statement in progress
 abbrev pub running_plan : Catalog → World → In_progress → Session → Plan
 running_plan cat world running me = task_plan cat world (with_running running me) None (running.task ∷ [])
+
+-- a session that has taken its next statement, or has ended for want of one
+abbrev pub started : Option Bound → Session → Session
+started None me = record me { transaction = None; ended = true }
+started (Some statement) me =
+    record me {
+      next = me.next + 1;
+      transaction = Some (record { work = record { writes = []; opened = record { queued = []; round = [] } ∷ [] } });
+      tasks = Rows (operation_of statement) (targets_of statement) 0 ∷ [];
+    }

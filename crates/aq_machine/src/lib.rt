@@ -6,6 +6,7 @@ mod checks;
 mod numbers;
 mod replies;
 mod session;
+mod step;
 mod world;
 
 pub use numbers::SessNo;

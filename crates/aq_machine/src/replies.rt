@@ -1,7 +1,9 @@
 ghost use Rattle.std.specs.Prelude.{◌≡◌, ◌++◌, [], ◌∷◌, map, codes, string_bytes, OnOk, IfOk};
 ghost use Rattle.std.specs.Fmt.{signed_decimal, decimal};
 ghost use Rattle.aq_run.specs.Replies.{answer_lines, detail_value, col_name, table_name, joined, key_text, quoted, error_lines};
+ghost use Rattle.aq_run.specs.Effects.{given};
 ghost use Rattle.aq_machine.specs.Behind.{behind};
+ghost use Rattle.aq_machine.specs.Givens.{given_shown};
 ghost use Rattle.aq_machine.specs.Shown.{answer_shown};
 ghost use Rattle.aq_machine.specs.Found.{fault_shown};
 
@@ -9,7 +11,7 @@ use crate::catalog::Catalog;
 use crate::checks::Fault;
 use crate::numbers::SessNo;
 use crate::session::Answer;
-use aq_base::{Code, ColNo, ForeignKey, Key, NoMemory, ReplyLine, TabNo, TextVal, UniqueKey, Value};
+use aq_base::{Code, ColNo, ForeignKey, Key, List, NoMemory, ReplyLine, TabNo, TextVal, UniqueKey, Value};
 use std::alloc::Global;
 
 /// A line of a reply, with the session and the number of its statement, counted from 1.
@@ -18,6 +20,21 @@ pub struct Given {
     pub session: SessNo,
     pub statement: u32,
     pub line: ReplyLine,
+}
+
+/// The lines, each with the session and the number of its statement.
+pub(crate) fn given_lines(alloc: Global, session: SessNo, statement: u32, lines: Vec<ReplyLine>) -> Result<List<Given>, NoMemory>
+    ensures { IfOk result (λ made. map given_shown made ≡ given session.0 statement lines.items) }
+{
+    let mut made = List::new(alloc);
+    'lines: for line in lines {
+        made.push(Given {
+            session,
+            statement,
+            line,
+        })?;
+    }
+    Ok(made)
 }
 
 fn push_number(out: &mut String, n: i64) -> Result<(), NoMemory>

@@ -1,13 +1,16 @@
-ghost use Rattle.std.specs.Prelude.{◌≡◌, ◌&&◌, ◌==◌, map, unwrap_or, option_map};
+ghost use Rattle.std.specs.Prelude.{◌≡◌, ◌&&◌, ◌==◌, ◌++◌, ◌∷◌, [], map, length, vec_len, unwrap_or, option_map, OnOk, OnErr};
 ghost use Rattle.std.specs.List.{list_any};
 ghost use Rattle.aq_base.specs.Values.{keys_match, values_at, values_match};
 ghost use Rattle.aq_base.specs.Databases.{has_key};
 ghost use Rattle.aq_base.specs.declared.value.Value.TheVariants.{Null};
 ghost use Rattle.aq_run.specs.States.{last_database};
-ghost use Rattle.aq_machine.specs.Versions.{version_has, with_commit};
+ghost use Rattle.aq_base.specs.Writes.{overlay};
+ghost use Rattle.aq_machine.specs.Givens.{given_shown};
+ghost use Rattle.aq_machine.specs.Orders.{Rises, keys_of};
+ghost use Rattle.aq_machine.specs.Versions.{version_has, with_commit, write_entry};
 
 use crate::replies::Given;
-use aq_base::{ColNo, List, Row, RowNo, TabNo, Value, value_eq};
+use aq_base::{ColNo, List, NoMemory, Row, RowNo, TabNo, Value, value_eq};
 use std::marker::Model;
 
 /// A version of a row, in a transaction's writes or in the history.
@@ -82,8 +85,9 @@ pub(crate) fn some_version_has(versions: &[Version], table: TabNo, cols: &[ColNo
 }
 
 /// Gives each version the number of the commit.
-pub(crate) fn set_commit(versions: &mut [Version], commit: u64)
-    ensures { versions.new ≡ map (with_commit commit) versions.old }
+pub(crate) fn set_commit(versions: &mut Vec<Version>, commit: u64)
+    ensures items { versions.new.items ≡ map (with_commit commit) versions.old.items }
+    ensures len { vec_len versions.new ≡ vec_len versions.old }
 {
     for v in versions.iter_mut() {
         v.commit = commit;
@@ -96,5 +100,31 @@ impl World {
         ensures { result ≡ list_any (λ entry. has_key table cols.now key.now entry.1) (last_database self.now) }
     {
         some_version_has(self.versions.as_slice(), table, cols, key)
+    }
+
+    /// Adds lines to the replies.
+    pub(crate) fn give(&mut self, lines: List<Given>) -> Result<(), NoMemory>
+        ensures ok { OnOk result (self.new ≡ record self.old { replies = self.old.replies ++ map given_shown lines }) }
+        ensures err { OnErr result (self.new ≡ self.old) }
+    {
+        self.replies.append(lines)
+    }
+
+    /// The next database has the writes; they are no transaction's any longer. The lines are added to the replies.
+    pub(crate) fn commit(&mut self, writes: &mut Vec<Version>, lines: List<Given>) -> Result<(), NoMemory>
+        requires { Rises 0 (keys_of (last_database self.old) (map write_entry writes.old.items)) self.old.rows }
+        ensures ok { OnOk result (self.new ≡ record self.old {
+            history = self.old.history ++ overlay (length self.old.history) (map write_entry writes.old.items) (last_database self.old) ∷ [];
+            replies = self.old.replies ++ map given_shown lines;
+        }) }
+        ensures err { OnErr result ((self.new ≡ self.old) × (map write_entry writes.new.items ≡ map write_entry writes.old.items)) }
+    {
+        let commit = self.commits.checked_add(1).ok_or(NoMemory)?;
+        self.versions.reserve(writes.len())?;
+        self.replies.append(lines)?;
+        set_commit(writes, commit);
+        self.versions.append(writes)?;
+        self.commits = commit;
+        Ok(())
     }
 }
