@@ -3,3 +3,4 @@ pub mod Overlays
 pub mod Finds
 pub mod Joins
 pub mod Commits
+pub mod StepKinds

@@ -1,8 +1,9 @@
 -- What a step of a statement in progress comes to.
-use Rattle.std.specs.Prelude.{◌≡◌, ℕ, ◌+◌, List, [], ◌∷◌, ◌++◌}
+use Rattle.std.specs.Prelude.{◌≡◌, ℕ, ◌+◌, List, [], ◌∷◌, ◌++◌, Some, None}
+use Rattle.std.specs.List.{AllByRecursion}
 use Rattle.aq_base.specs.Values.{Row}
 use Rattle.aq_base.specs.Catalogs.{Catalog}
-use Rattle.aq_run.specs.States.{Task, Target, Session, World, last_database}
+use Rattle.aq_run.specs.States.{Task, Target, Session, World, last_database, latest_view}
 use Rattle.aq_run.specs.States.Task.{Rows, Committing}
 use Rattle.aq_run.specs.States.Target.{New_row}
 use Rattle.aq_run.specs.States.Operation.{Inserting}
@@ -12,6 +13,9 @@ use Rattle.aq_machine.specs.Orders.{Rises, keys_of}
 use Rattle.aq_machine.specs.Shown.{answer_shown}
 use Rattle.aq_machine.specs.Found.{fault_shown}
 use Rattle.aq_machine.specs.Runnings.{In_progress, with_running, scene, carried_out, running_plan}
+use Rattle.aq_outcomes.specs.Rows.{insert_fault, insert_events}
+use Rattle.aq_machine.specs.declared.step.Planned.{Planned}
+use Rattle.aq_machine.specs.declared.step.Planned.TheVariants.{Inserts, Refused as Refuses}
 use Rattle.aq_machine.specs.declared.step.Change.{Change}
 use Rattle.aq_machine.specs.declared.step.Advanced.{Advanced}
 use Rattle.aq_machine.specs.declared.step.Advanced.TheVariants.{Further, Refused, Commits}
@@ -42,3 +46,15 @@ Inserts_row change running left =
       } };
       task = Rows (Inserting change.table) later (done + 1);
     }
+
+-- no event is left of the round in progress
+abbrev pub HasNoRound : In_progress → Type 0
+HasNoRound running = AllByRecursion (λ level. level.round ≡ []) running.transaction.work.opened
+
+-- a new row is refused, or it may be inserted with the next numbers and the events that it queues
+abbrev pub Plans_row : Catalog → World → In_progress → ℕ → Row → Planned → Type 0
+Plans_row cat world running table values (Refuses fault) = insert_fault cat (latest_view world running.transaction.work) table values ≡ Some (fault_shown fault)
+Plans_row cat world running table values (Inserts change) =
+    (insert_fault cat (latest_view world running.transaction.work) table values ≡ None)
+    × (change ≡ record change { table = table; row = world.rows + 1; write = world.writes + 1 })
+    × (change.events.items ≡ insert_events cat table (world.rows + 1) (world.writes + 1) values)

@@ -2,15 +2,18 @@ ghost use Rattle.std.specs.Prelude.{◌≡◌, ℕ, ◌+◌, [], ◌∷◌, ◌+
 ghost use Rattle.aq_base.specs.Values.{Row as Row_values};
 ghost use Rattle.aq_base.specs.declared.script.Bound.{Bound as Bound_statement};
 ghost use Rattle.aq_run.specs.States.{Session as Seen_session, last_database};
-ghost use Rattle.aq_run.specs.States.Task.{Rows as Rows_left};
+ghost use Rattle.aq_run.specs.States.Task.{Rows as Rows_left, Rounds as Rounds_left};
 ghost use Rattle.aq_run.specs.States.Target.{New_row};
 ghost use Rattle.aq_run.specs.States.Operation.{Inserting};
 ghost use Rattle.aq_outcomes.specs.Rows.{insert_events};
 ghost use Rattle.aq_run.specs.Effects.{with_row};
 ghost use Rattle.aq_run.specs.Steps.{task_plan};
 ghost use Rattle.aq_machine.specs.Orders.{Rises, keys_of, Is_orderly};
+ghost use Rattle.aq_machine.specs.Shown.{answer_shown};
 ghost use Rattle.aq_machine.specs.Runnings.{scene, carried_out, running_plan, with_running, started};
-ghost use Rattle.aq_machine.specs.Advances.{Advances, Is_in_order, Inserts_row};
+ghost use Rattle.aq_machine.specs.Advances.{Advances, Is_in_order, Inserts_row, Goes_further, HasNoRound, Plans_row};
+ghost use Rattle.aq_base.specs.Catalogs.{Catalog as Catalog_value};
+ghost use Rattle.aq_run.specs.States.{World as World_value};
 
 use crate::catalog::Catalog;
 use crate::checks::{Fault, event_fault, insert_fault_of};
@@ -21,6 +24,7 @@ use crate::world::{Version, World};
 use aq_base::{Bound, Copies, List, NoMemory, Row, RowNo, TabNo};
 use std::alloc::Global;
 use std::collections::VecDeque;
+use std::mem::swap;
 
 /// The rows of a VALUES, to be taken one by one.
 fn queue_of(alloc: Global, rows: &[Row]) -> Result<VecDeque<Row>, NoMemory>
@@ -126,4 +130,87 @@ fn insert(change: Change, running: &mut Running) -> Result<(), NoMemory>
         *done = count;
     }
     Ok(())
+}
+
+/// With no event left of the round: the events queued since are the next round, or the level closes.
+fn next_round(running: &mut Running, answer: Answer)
+    requires rounds { running.old.task ≡ Rounds_left (answer_shown answer) }
+    requires none_left { HasNoRound running.old }
+    ensures further { (cat : Catalog_value) (world : World_value) → Goes_further cat world running.old world running.new }
+    ensures writes { running.new.transaction.work.writes ≡ running.old.transaction.work.writes }
+{
+    if running.queued.is_empty() {
+        running.task = Task::Committing { answer };
+        return;
+    }
+    swap(&mut running.queued, &mut running.round);
+}
+
+/// A step of the rounds of a statement's level: the first event of the round in progress, or the events queued since
+/// as the next round, or the close of the level where there are none.
+fn rounds_step<'a>(catalog: &'a Catalog, world: &World, running: &mut Running, answer: Answer) -> Result<Advanced<'a>, NoMemory>
+    requires order { Is_in_order world.now running.old }
+    requires rounds { running.old.task ≡ Rounds_left (answer_shown answer) }
+    ensures ok { IfOk result (Advances catalog.now world.now running.old world.now running.new) }
+    ensures err { OnErr result (running.new ≡ running.old) }
+{
+    let Some(event) = running.round.front() else {
+        next_round(running, answer);
+        return Ok(Advanced::Further);
+    };
+    if let Some(fault) = event_fault(catalog, event, world, running)? {
+        return Ok(Advanced::Refused(fault));
+    }
+    running.round.pop_front();
+    Ok(Advanced::Further)
+}
+
+/// What a row that is to be inserted comes to.
+#[derive(Drop)]
+enum Planned<'a> {
+    Inserts(Change),
+    Refused(Fault<'a>),
+}
+
+/// Looks for what refuses a new row, and else draws its numbers.
+fn plan_row<'a>(alloc: Global, catalog: &'a Catalog, world: &World, running: &Running, table: TabNo, values: &Row) -> Result<Planned<'a>, NoMemory>
+    requires { Is_in_order world.now running.now }
+    ensures { IfOk result (Plans_row catalog.now world.now running.now table values.now) }
+{
+    match insert_fault_of(catalog, world, running, table, values)? {
+        Some(fault) => Ok(Planned::Refused(fault)),
+        None => Ok(Planned::Inserts(new_row(alloc, catalog, world, table, values)?)),
+    }
+}
+
+/// A step of a statement in progress.
+fn advance<'a>(alloc: Global, catalog: &'a Catalog, world: &mut World, running: &mut Running) -> Result<Advanced<'a>, NoMemory>
+    requires { Is_in_order world.old running.old }
+    ensures ok { IfOk result (Advances catalog.now world.old running.old world.new running.new) }
+    ensures err { OnErr result ((world.new ≡ world.old) × (running.new ≡ running.old)) }
+{
+    match &running.task {
+        Task::Rows { table, left, done } => {
+            let Some(values) = left.front() else {
+                let answer = Answer::Inserted(*done);
+                running.task = Task::Rounds { answer };
+                return Ok(Advanced::Further);
+            };
+            match plan_row(alloc, catalog, world, running, *table, values)? {
+                Planned::Refused(fault) => Ok(Advanced::Refused(fault)),
+                Planned::Inserts(change) => {
+                    let (row, write) = (change.row.get(), change.write);
+                    insert(change, running)?;
+                    world.rows = row;
+                    world.writes = write;
+                    Ok(Advanced::Further)
+                }
+            }
+        }
+        Task::Rounds { answer } => {
+            let answer = *answer;
+            rounds_step(catalog, world, running, answer)
+        }
+        Task::Committing { answer } => Ok(Advanced::Commits(*answer)),
+    }
 }
