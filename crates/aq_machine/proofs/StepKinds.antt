@@ -1,18 +1,32 @@
 -- The kinds of step of a statement in progress, as they are carried out.
-use Rattle.std.proofs.Common.{◌≡◌, ℕ, ◌+◌, List, [], ◌∷◌, ◌++◌, map, refl, ap, sym, ◌∙◌}
+use Rattle.std.proofs.Common.{◌≡◌, ℕ, ◌+◌, List, [], ◌∷◌, ◌++◌, map, Bool, Option, Some, None, option_map, refl, arith, append_assoc}
+use Rattle.std.specs.Option.{option_to_list}
+use Rattle.std.proofs.lemmas.List.{map-append}
+use Rattle.aq_base.specs.declared.script.Bound.{Bound}
+use Rattle.aq_base.specs.Values.{Row}
+use Rattle.aq_base.specs.Maps.{with_at}
 use Rattle.aq_base.specs.Catalogs.{Catalog}
 use Rattle.aq_base.specs.Works.{Event, Opened, Work}
 use Rattle.aq_base.specs.Writes.{Writes}
-use Rattle.aq_run.specs.States.{World, Answer}
+use Rattle.aq_outcomes.specs.Faults.{Fault}
+use Rattle.aq_outcomes.specs.Rows.{insert_fault, insert_events}
+use Rattle.aq_run.specs.States.{World, Session, Target, Answer, Task as Shown_task, last_database, latest_view}
+use Rattle.aq_run.specs.States.Operation.{Inserting}
+use Rattle.aq_run.specs.States.Target.{New_row}
+use Rattle.aq_run.specs.States.Answer.{Inserted}
 use Rattle.aq_run.specs.States.Task.{Rows as Rows_left, Rounds as Rounds_left, Committing as Commit_left}
-use Rattle.aq_run.specs.Effects.{effect}
+use Rattle.aq_run.specs.Effects.{effect, on_top, with_events, given}
+use Rattle.aq_run.specs.Replies.{answer_lines, error_lines}
 use Rattle.aq_run.specs.Effects.Effect.{Finishes}
-use Rattle.aq_run.specs.Steps.{event_plan}
-use Rattle.aq_run.specs.Steps.Plan.{Does_all}
-use Rattle.aq_machine.specs.Runnings.{In_progress}
+use Rattle.aq_run.specs.Steps.{event_plan, task_plan}
+use Rattle.aq_run.specs.Steps.Plan.{Does_all, Fails}
+use Rattle.aq_machine.specs.Runnings.{In_progress, running_plan, scene, carried_out, started}
 use Rattle.aq_machine.specs.Shown.{task_shown, opened_at, answer_shown}
-use Rattle.aq_machine.specs.Advances.{Goes_further, HasNoRound}
+use Rattle.aq_machine.specs.Advances.{Goes_further, HasNoRound, Is_in_order}
+use Rattle.aq_machine.specs.Orders.{Rises, keys_of}
+use Rattle.aq_machine.proofs.Overlays.{with_at-last, Rises-push}
 use Rattle.aq_machine.specs.declared.session.Answer.{Answer as Own_answer}
+use Rattle.aq_machine.specs.declared.session.Answer.TheVariants.{Inserted as Inserted_rows}
 use Rattle.aq_machine.specs.declared.session.Task.{Task}
 use Rattle.aq_machine.specs.declared.session.Task.TheVariants.{Rows, Rounds, Committing}
 
@@ -46,3 +60,84 @@ unfolding effect
 goes-close cat world writes (Rows table left done) answer queued round is none empty = cc
 goes-close cat world writes (Rounds a) answer queued round is none empty = let same : answer_shown answer ≡ answer_shown a = cc in rw (none, empty, same) (λ s me. refl)
 goes-close cat world writes (Committing a) answer queued round is none empty = cc
+
+pub goes-end : (cat : Catalog) (world : World) (writes : Writes) (task : Task) (table done : ℕ) (queued round : List Event)
+    → task_shown task ≡ Rows_left (Inserting table) [] done → Goes_further cat world (parts writes task queued round) world (parts writes (Rounds (Inserted_rows done)) queued round)
+unfolding effect
+goes-end cat world writes (Rows t left d) table done queued round is =
+    let none : map New_row left.items ≡ [] = cc in
+    let count : d ≡ done = cc in
+    rw (none, count) (λ s me. refl)
+goes-end cat world writes (Rounds a) table done queued round is = cc
+goes-end cat world writes (Committing a) table done queued round is = cc
+
+pub plan-refused : (cat : Catalog) (world : World) (running : In_progress) (table done : ℕ) (values : Row) (later : List Target) (fault : Fault)
+    → running.task ≡ Rows_left (Inserting table) (New_row values ∷ later) done → insert_fault cat (latest_view world running.transaction.work) table values ≡ Some fault
+    → (me : Session) → running_plan cat world running me ≡ Fails fault
+plan-refused cat world running table done values later fault is found me = rw (is, found) refl
+
+-- the row that an INSERT writes next
+abbrev pub row_written : ℕ → ℕ → ℕ → Row → List Event → In_progress → In_progress
+row_written row write table values events running = record running {
+  transaction = record { work = record {
+    writes = running.transaction.work.writes ++ (row, record { table = table; image = values; number = write }) ∷ [];
+    opened = on_top (with_events events) running.transaction.work.opened;
+  } };
+}
+
+pub goes-insert : (cat : Catalog) (world : World) (running : In_progress) (table done : ℕ) (values : Row) (later : List Target)
+    → running.task ≡ Rows_left (Inserting table) (New_row values ∷ later) done → insert_fault cat (latest_view world running.transaction.work) table values ≡ None → Is_in_order world running
+    → Goes_further cat world running (record world { rows = world.rows + 1; writes = world.writes + 1 })
+    (record (row_written (world.rows + 1) (world.writes + 1) table values (insert_events cat table (world.rows + 1) (world.writes + 1) values) running) { task = Rows_left (Inserting table) later (done + 1) })
+unfolding effect
+goes-insert cat world running table done values later is none order =
+    let last : with_at (world.rows + 1) (record { table = table; image = values; number = world.writes + 1 }) running.transaction.work.writes
+            ≡ running.transaction.work.writes ++ (world.rows + 1, record { table = table; image = values; number = world.writes + 1 }) ∷ [] =
+        with_at-last (map (λ entry. entry.0) (last_database world)) running.transaction.work.writes world.rows (world.rows + 1) (record { table = table; image = values; number = world.writes + 1 }) order (omega arith) in
+    λ s me. rw (is, none, last) refl
+
+pub order-insert : (world : World) (running : In_progress) (write table : ℕ) (values : Row) (events : List Event) → Is_in_order world running
+    → Rises 0 (keys_of (last_database world) (row_written (world.rows + 1) write table values events running).transaction.work.writes) (world.rows + 1)
+order-insert world running write table values events order =
+    let keys : keys_of (last_database world) (row_written (world.rows + 1) write table values events running).transaction.work.writes ≡ keys_of (last_database world) running.transaction.work.writes ++ (world.rows + 1) ∷ [] = simp (map-append, append_assoc) in
+    rw keys (Rises-push 0 (keys_of (last_database world) running.transaction.work.writes) world.rows (world.rows + 1) order (omega arith))
+
+-- a session, by what it has in progress
+abbrev pub holding : ℕ → Option In_progress → Bool → Session
+holding next running ended =
+    record { next = next; transaction = option_map (λ r. r.transaction) running; tasks = map (λ r. r.task) (option_to_list running); ended = ended }
+
+-- a statement in progress plans without a look at the next one
+plan-any : (cat : Catalog) (world : World) (me : Session) (statement : Option Bound) (task : Shown_task) → task_plan cat world me statement (task ∷ []) ≡ task_plan cat world me None (task ∷ [])
+plan-any cat world me statement (Rows_left operation [] done) = refl
+plan-any cat world me statement (Rows_left operation (target ∷ left) done) = refl
+plan-any cat world me statement (Rounds_left answer) = refl
+plan-any cat world me statement (Commit_left answer) = refl
+
+abbrev pub Steps_to : Catalog → ℕ → Option Bound → World → Session → World → Session → Type 0
+Steps_to cat s statement world me after left = scene after left ≡ carried_out cat s (task_plan cat world me statement me.tasks) (scene world me)
+
+pub step-start : (cat : Catalog) (s : ℕ) (statement : Option Bound) (world : World) (next : ℕ) (ended : Bool)
+    → Steps_to cat s statement world (holding next None ended) world (started statement (holding next None ended))
+unfolding effect
+step-start cat s None world next ended = refl
+step-start cat s (Some statement) world next ended = refl
+
+pub step-further : (cat : Catalog) (s : ℕ) (statement : Option Bound) (world : World) (running : In_progress) (after : World) (left : In_progress) (next : ℕ) (ended : Bool)
+    → Goes_further cat world running after left → Steps_to cat s statement world (holding next (Some running) ended) after (holding next (Some left) ended)
+step-further cat s statement world running after left next ended goes =
+    rw (plan-any cat world (holding next (Some running) ended) statement running.task) (goes s (holding next None ended))
+
+pub step-refused : (cat : Catalog) (s : ℕ) (statement : Option Bound) (world : World) (running : In_progress) (fault : Fault) (next : ℕ) (ended : Bool)
+    → ((me : Session) → running_plan cat world running me ≡ Fails fault)
+    → Steps_to cat s statement world (holding next (Some running) ended) (record world { replies = world.replies ++ given s next (error_lines cat fault) }) (holding next None ended)
+unfolding effect
+step-refused cat s statement world running fault next ended plan =
+    rw (plan-any cat world (holding next (Some running) ended) statement running.task, plan (holding next None ended)) refl
+
+pub step-commits : (cat : Catalog) (s : ℕ) (statement : Option Bound) (world : World) (running : In_progress) (answer : Answer) (next : ℕ) (ended : Bool)
+    → running.task ≡ Commit_left answer
+    → Steps_to cat s statement world (holding next (Some running) ended)
+    (record world { history = world.history ++ latest_view world running.transaction.work ∷ []; replies = world.replies ++ given s next (answer_lines answer) }) (holding next None ended)
+unfolding effect
+step-commits cat s statement world running answer next ended is = rw is refl

@@ -1,12 +1,14 @@
 ghost use Rattle.std.specs.Prelude.{◌≡◌, ℕ, ◌+◌, [], ◌∷◌, ◌++◌, map, drop, Option, Some, None, OnOk, OnErr, IfOk, option_map, option_copied, slice_get, unwrap_or, MatchResult};
 ghost use Rattle.aq_base.specs.Values.{Row as Row_values};
 ghost use Rattle.aq_base.specs.declared.script.Bound.{Bound as Bound_statement};
-ghost use Rattle.aq_run.specs.States.{Session as Seen_session, last_database};
+ghost use Rattle.aq_run.specs.States.{Session as Seen_session, last_database, latest_view};
 ghost use Rattle.aq_run.specs.States.Task.{Rows as Rows_left, Rounds as Rounds_left};
 ghost use Rattle.aq_run.specs.States.Target.{New_row};
 ghost use Rattle.aq_run.specs.States.Operation.{Inserting};
 ghost use Rattle.aq_outcomes.specs.Rows.{insert_events};
-ghost use Rattle.aq_run.specs.Effects.{with_row};
+ghost use Rattle.aq_run.specs.Effects.{given};
+ghost use Rattle.aq_run.specs.Replies.{answer_lines, error_lines};
+ghost use Rattle.aq_machine.specs.Found.{fault_shown};
 ghost use Rattle.aq_run.specs.Steps.{task_plan};
 ghost use Rattle.aq_machine.specs.Orders.{Rises, keys_of, Is_orderly};
 ghost use Rattle.aq_machine.specs.Shown.{answer_shown};
@@ -183,6 +185,19 @@ fn plan_row<'a>(alloc: Global, catalog: &'a Catalog, world: &World, running: &Ru
     }
 }
 
+/// Inserts the next row of an INSERT, whose numbers are drawn then.
+fn draw_and_insert(change: Change, world: &mut World, running: &mut Running) -> Result<(), NoMemory>
+    ensures row { OnOk result (Inserts_row change running.old running.new) }
+    ensures numbers { OnOk result (world.new ≡ record world.old { rows = change.row; writes = change.write }) }
+    ensures err { OnErr result ((world.new ≡ world.old) × (running.new ≡ running.old)) }
+{
+    let (row, write) = (change.row.get(), change.write);
+    insert(change, running)?;
+    world.rows = row;
+    world.writes = write;
+    Ok(())
+}
+
 /// A step of a statement in progress.
 fn advance<'a>(alloc: Global, catalog: &'a Catalog, world: &mut World, running: &mut Running) -> Result<Advanced<'a>, NoMemory>
     requires { Is_in_order world.old running.old }
@@ -199,10 +214,7 @@ fn advance<'a>(alloc: Global, catalog: &'a Catalog, world: &mut World, running: 
             match plan_row(alloc, catalog, world, running, *table, values)? {
                 Planned::Refused(fault) => Ok(Advanced::Refused(fault)),
                 Planned::Inserts(change) => {
-                    let (row, write) = (change.row.get(), change.write);
-                    insert(change, running)?;
-                    world.rows = row;
-                    world.writes = write;
+                    draw_and_insert(change, world, running)?;
                     Ok(Advanced::Further)
                 }
             }
@@ -213,4 +225,28 @@ fn advance<'a>(alloc: Global, catalog: &'a Catalog, world: &mut World, running: 
         }
         Task::Committing { answer } => Ok(Advanced::Commits(*answer)),
     }
+}
+
+/// Gives a refusal as the reply of the statement.
+fn refuse(alloc: Global, catalog: &Catalog, s: SessNo, statement: u32, world: &mut World, fault: &Fault) -> Result<(), NoMemory>
+    ensures ok { OnOk result (world.new ≡ record world.old { replies = world.old.replies ++ given s.0 statement (error_lines catalog.now (fault_shown fault.now)) }) }
+    ensures err { OnErr result (world.new ≡ world.old) }
+{
+    let lines = fault_lines(alloc, catalog, fault)?;
+    world.give(given_lines(alloc, s, statement, lines)?)
+}
+
+/// Commits the transaction of a statement, and gives the answer as its reply.
+fn commit(alloc: Global, s: SessNo, statement: u32, world: &mut World, running: &mut Running, answer: Answer) -> Result<(), NoMemory>
+    requires { Is_in_order world.old running.old }
+    ensures ok { OnOk result (world.new ≡ record world.old {
+        history = world.old.history ++ latest_view world.old running.old.transaction.work ∷ [];
+        replies = world.old.replies ++ given s.0 statement (answer_lines (answer_shown answer));
+    }) }
+    ensures err { OnErr result ((world.new ≡ world.old) × (running.new ≡ running.old)) }
+{
+    let mut lines = Vec::new(alloc);
+    lines.push(answer_line(alloc, answer)?)?;
+    let lines = given_lines(alloc, s, statement, lines)?;
+    world.commit(&mut running.writes, lines)
 }
