@@ -1,7 +1,7 @@
 -- The kinds of step of a statement in progress, as they are carried out.
-use Rattle.std.proofs.Common.{◌≡◌, ℕ, ◌+◌, List, [], ◌∷◌, ◌++◌, map, Bool, Option, Some, None, option_map, refl, arith, append_assoc}
+use Rattle.std.proofs.Common.{◌≡◌, ℕ, ◌+◌, List, [], ◌∷◌, ◌++◌, map, length, Bool, Option, Some, None, option_map, refl, arith, append_assoc}
 use Rattle.std.specs.Option.{option_to_list}
-use Rattle.std.proofs.lemmas.List.{map-append}
+use Rattle.std.proofs.lemmas.List.{map-append, append-nil}
 use Rattle.aq_base.specs.declared.script.Bound.{Bound}
 use Rattle.aq_base.specs.Values.{Row}
 use Rattle.aq_base.specs.Maps.{with_at}
@@ -10,7 +10,7 @@ use Rattle.aq_base.specs.Works.{Event, Opened, Work}
 use Rattle.aq_base.specs.Writes.{Writes}
 use Rattle.aq_outcomes.specs.Faults.{Fault}
 use Rattle.aq_outcomes.specs.Rows.{insert_fault, insert_events}
-use Rattle.aq_run.specs.States.{World, Session, Target, Answer, Task as Shown_task, last_database, latest_view}
+use Rattle.aq_run.specs.States.{World, Session, Given, Target, Answer, Task as Shown_task, last_database, latest_view}
 use Rattle.aq_run.specs.States.Operation.{Inserting}
 use Rattle.aq_run.specs.States.Target.{New_row}
 use Rattle.aq_run.specs.States.Answer.{Inserted}
@@ -20,11 +20,12 @@ use Rattle.aq_run.specs.Replies.{answer_lines, error_lines}
 use Rattle.aq_run.specs.Effects.Effect.{Finishes}
 use Rattle.aq_run.specs.Steps.{event_plan, task_plan}
 use Rattle.aq_run.specs.Steps.Plan.{Does_all, Fails}
-use Rattle.aq_machine.specs.Runnings.{In_progress, running_plan, scene, carried_out, started}
+use Rattle.aq_machine.specs.Runnings.{In_progress, running_plan, scene, carried_out, started, Steps_to}
 use Rattle.aq_machine.specs.Shown.{task_shown, opened_at, answer_shown}
 use Rattle.aq_machine.specs.Advances.{Goes_further, HasNoRound, Is_in_order}
-use Rattle.aq_machine.specs.Orders.{Rises, keys_of}
-use Rattle.aq_machine.proofs.Overlays.{with_at-last, Rises-push}
+use Rattle.aq_machine.specs.Orders.{Rises, keys_of, Is_orderly}
+use Rattle.aq_machine.proofs.Overlays.{with_at-last, Rises-push, Rises-front}
+use Rattle.aq_machine.proofs.Commits.{Rises-commit}
 use Rattle.aq_machine.specs.declared.session.Answer.{Answer as Own_answer}
 use Rattle.aq_machine.specs.declared.session.Answer.TheVariants.{Inserted as Inserted_rows}
 use Rattle.aq_machine.specs.declared.session.Task.{Task}
@@ -114,9 +115,6 @@ plan-any cat world me statement (Rows_left operation (target ∷ left) done) = r
 plan-any cat world me statement (Rounds_left answer) = refl
 plan-any cat world me statement (Commit_left answer) = refl
 
-abbrev pub Steps_to : Catalog → ℕ → Option Bound → World → Session → World → Session → Type 0
-Steps_to cat s statement world me after left = scene after left ≡ carried_out cat s (task_plan cat world me statement me.tasks) (scene world me)
-
 pub step-start : (cat : Catalog) (s : ℕ) (statement : Option Bound) (world : World) (next : ℕ) (ended : Bool)
     → Steps_to cat s statement world (holding next None ended) world (started statement (holding next None ended))
 unfolding effect
@@ -141,3 +139,14 @@ pub step-commits : (cat : Catalog) (s : ℕ) (statement : Option Bound) (world :
     (record world { history = world.history ++ latest_view world running.transaction.work ∷ []; replies = world.replies ++ given s next (answer_lines answer) }) (holding next None ended)
 unfolding effect
 step-commits cat s statement world running answer next ended is = rw is refl
+
+-- ---- the row numbers after a step
+
+pub order-refused : (world : World) (running : In_progress) (replies : List Given) (next : ℕ) (ended : Bool) → Is_in_order world running
+    → Is_orderly (record world { replies = replies }) (holding next None ended)
+order-refused world running replies next ended order =
+    rw append-nil (Rises-front 0 (map (λ entry. entry.0) (last_database world)) (map (λ entry. entry.0) running.transaction.work.writes) world.rows order)
+
+pub order-commits : (world : World) (running : In_progress) (replies : List Given) (next : ℕ) (ended : Bool) → Is_in_order world running
+    → Is_orderly (record world { history = world.history ++ latest_view world running.transaction.work ∷ []; replies = replies }) (holding next None ended)
+order-commits world running replies next ended order = Rises-commit (length world.history) world.rows world.history (last_database world) running.transaction.work.writes order

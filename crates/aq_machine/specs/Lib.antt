@@ -3,6 +3,7 @@ pub mod Versions
 pub mod Shown
 pub mod Runnings
 pub mod Advances
+pub mod Machines
 pub mod Orders
 pub mod Found
 pub mod Behind

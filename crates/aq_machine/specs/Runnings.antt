@@ -1,5 +1,5 @@
 -- A statement in progress, and how it stands in a session.
-use Rattle.std.specs.Prelude.{ℕ, ◌+◌, Bool, true, [], ◌∷◌, Option, Some, None}
+use Rattle.std.specs.Prelude.{◌≡◌, ℕ, ◌+◌, true, [], ◌∷◌, Option, Some, None}
 use Rattle.aq_base.specs.Catalogs.{Catalog}
 use Rattle.aq_base.specs.declared.script.Bound.{Bound}
 use Rattle.aq_run.specs.States.{Task, Transaction, Session, World}
@@ -35,3 +35,7 @@ started (Some statement) me =
       transaction = Some (record { work = record { writes = []; opened = record { queued = []; round = [] } ∷ [] } });
       tasks = Rows (operation_of statement) (targets_of statement) 0 ∷ [];
     }
+
+-- one step of a session whose next statement is given
+abbrev pub Steps_to : Catalog → ℕ → Option Bound → World → Session → World → Session → Type 0
+Steps_to cat s statement world me after left = scene after left ≡ carried_out cat s (task_plan cat world me statement me.tasks) (scene world me)

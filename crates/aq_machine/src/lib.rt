@@ -3,11 +3,13 @@
 
 mod catalog;
 mod checks;
+mod machine;
 mod numbers;
 mod replies;
 mod session;
 mod step;
 mod world;
 
+pub use machine::Machine;
 pub use numbers::SessNo;
 pub use replies::Given;

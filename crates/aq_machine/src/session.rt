@@ -4,6 +4,7 @@ ghost use Rattle.aq_base.specs.Maps.{at};
 ghost use Rattle.aq_outcomes.specs.References.{is_live};
 ghost use Rattle.aq_outcomes.specs.Rows.{insert_events, fires_on, same_op};
 ghost use Rattle.aq_base.specs.declared.catalog.Op.TheVariants.{Insert as On_insert};
+ghost use Rattle.aq_run.specs.States.{at_start};
 ghost use Rattle.aq_machine.specs.Versions.{write_has, write_entry};
 
 use crate::catalog::Catalog;
@@ -97,6 +98,19 @@ impl Model for Session {
         tasks = map (λ r. r.task) (option_to_list s.running);
         ended = s.ended;
     } };
+}
+
+impl Session {
+    /// A session before its first statement.
+    pub(crate) fn at_start() -> Session
+        ensures { result ≡ at_start }
+    {
+        Session {
+            next: 0,
+            running: None,
+            ended: false,
+        }
+    }
 }
 
 /// The number of the change that made the newest of the versions of a row.

@@ -12,7 +12,7 @@ ghost use Rattle.aq_machine.specs.Found.{fault_shown};
 ghost use Rattle.aq_run.specs.Steps.{task_plan};
 ghost use Rattle.aq_machine.specs.Orders.{Rises, keys_of, Is_orderly};
 ghost use Rattle.aq_machine.specs.Shown.{answer_shown};
-ghost use Rattle.aq_machine.specs.Runnings.{scene, carried_out, running_plan, with_running, started};
+ghost use Rattle.aq_machine.specs.Runnings.{scene, carried_out, running_plan, with_running, started, Steps_to};
 ghost use Rattle.aq_machine.specs.Advances.{Advances, Is_in_order, Inserts_row, Goes_further, HasNoRound, Plans_row};
 ghost use Rattle.aq_base.specs.Catalogs.{Catalog as Catalog_value};
 ghost use Rattle.aq_run.specs.States.{World as World_value};
@@ -228,11 +228,11 @@ fn advance<'a>(alloc: Global, catalog: &'a Catalog, world: &mut World, running: 
 }
 
 /// Gives a refusal as the reply of the statement.
-fn refuse(alloc: Global, catalog: &Catalog, s: SessNo, statement: u32, world: &mut World, fault: &Fault) -> Result<(), NoMemory>
-    ensures ok { OnOk result (world.new ≡ record world.old { replies = world.old.replies ++ given s.0 statement (error_lines catalog.now (fault_shown fault.now)) }) }
+fn refuse(alloc: Global, catalog: &Catalog, s: SessNo, statement: u32, world: &mut World, fault: Fault) -> Result<(), NoMemory>
+    ensures ok { OnOk result (world.new ≡ record world.old { replies = world.old.replies ++ given s.0 statement (error_lines catalog.now (fault_shown fault.entry)) }) }
     ensures err { OnErr result (world.new ≡ world.old) }
 {
-    let lines = fault_lines(alloc, catalog, fault)?;
+    let lines = fault_lines(alloc, catalog, &fault)?;
     world.give(given_lines(alloc, s, statement, lines)?)
 }
 
@@ -249,4 +249,26 @@ fn commit(alloc: Global, s: SessNo, statement: u32, world: &mut World, running: 
     lines.push(answer_line(alloc, answer)?)?;
     let lines = given_lines(alloc, s, statement, lines)?;
     world.commit(&mut running.writes, lines)
+}
+
+/// One step of a session: the session takes its next statement, or the one in progress goes on.
+/// The error is want of memory, or a counter at its end.
+pub(crate) fn step_session(alloc: Global, catalog: &Catalog, statements: &List<Bound>, s: SessNo, world: &mut World, session: &mut Session) -> Result<(), NoMemory>
+    requires { Is_orderly world.old session.old }
+    ensures ok { OnOk result (Steps_to catalog.now s.0 (slice_get statements.now session.old.next) world.old session.old world.new session.new) }
+    ensures orderly { OnOk result (Is_orderly world.new session.new) }
+    ensures err { OnErr result ((world.new ≡ world.old) × (session.new ≡ session.old)) }
+{
+    let statement = session.next;
+    let Some(running) = &mut session.running else {
+        start(alloc, statements.get(statement as usize), session)?;
+        return Ok(());
+    };
+    match advance(alloc, catalog, world, running)? {
+        Advanced::Further => return Ok(()),
+        Advanced::Refused(fault) => refuse(alloc, catalog, s, statement, world, fault)?,
+        Advanced::Commits(answer) => commit(alloc, s, statement, world, running, answer)?,
+    }
+    session.running = None;
+    Ok(())
 }

@@ -1,4 +1,4 @@
-ghost use Rattle.std.specs.Prelude.{◌≡◌, ◌&&◌, ◌==◌, ◌++◌, ◌∷◌, [], map, length, vec_len, unwrap_or, option_map, OnOk, OnErr};
+ghost use Rattle.std.specs.Prelude.{◌≡◌, ◌&&◌, ◌==◌, ◌++◌, ◌∷◌, [], map, length, vec_len, unwrap_or, option_map, OnOk, OnErr, IfOk};
 ghost use Rattle.std.specs.List.{list_any};
 ghost use Rattle.aq_base.specs.Values.{keys_match, values_at, values_match};
 ghost use Rattle.aq_base.specs.Databases.{has_key};
@@ -7,10 +7,12 @@ ghost use Rattle.aq_run.specs.States.{last_database};
 ghost use Rattle.aq_base.specs.Writes.{overlay};
 ghost use Rattle.aq_machine.specs.Givens.{given_shown};
 ghost use Rattle.aq_machine.specs.Orders.{Rises, keys_of};
-ghost use Rattle.aq_machine.specs.Versions.{version_has, with_commit, write_entry};
+ghost use Rattle.aq_machine.specs.Versions.{version_has, with_commit, write_entry, stored_entry};
+ghost use Rattle.aq_run.specs.Texts.{table_rows};
 
 use crate::replies::Given;
-use aq_base::{ColNo, List, NoMemory, Row, RowNo, TabNo, Value, value_eq};
+use aq_base::{ColNo, Copies, List, NoMemory, Row, RowNo, TabNo, Value, value_eq};
+use std::alloc::Global;
 use std::marker::Model;
 
 /// A version of a row, in a transaction's writes or in the history.
@@ -94,7 +96,40 @@ pub(crate) fn set_commit(versions: &mut Vec<Version>, commit: u64)
     }
 }
 
+/// The rows of a table among versions.
+fn rows_among(alloc: Global, versions: &[Version], t: TabNo) -> Result<List<Row>, NoMemory>
+    ensures { IfOk result (λ rows. rows ≡ table_rows t (map stored_entry versions.now)) }
+{
+    let mut rows = List::new(alloc);
+    'versions: for v in versions {
+        if v.table == t {
+            rows.push(v.values.copy()?)?;
+        }
+    }
+    Ok(rows)
+}
+
 impl World {
+    /// Before the first commit: database 0 is empty.
+    pub(crate) fn new(alloc: Global) -> World
+        ensures { result ≡ record { history = [] ∷ []; rows = 0; writes = 0; replies = [] } }
+    {
+        World {
+            versions: Vec::new(alloc),
+            commits: 0,
+            rows: 0,
+            writes: 0,
+            replies: List::new(alloc),
+        }
+    }
+
+    /// The rows of a table in the last database, in the order of their row numbers.
+    pub(crate) fn table_rows(&self, alloc: Global, t: TabNo) -> Result<List<Row>, NoMemory>
+        ensures { IfOk result (λ rows. rows ≡ table_rows t (last_database self.now)) }
+    {
+        rows_among(alloc, self.versions.as_slice(), t)
+    }
+
     /// Whether a row of the last database is in the table and has the key.
     pub(crate) fn has_row(&self, table: TabNo, cols: &[ColNo], key: &[Value]) -> bool
         ensures { result ≡ list_any (λ entry. has_key table cols.now key.now entry.1) (last_database self.now) }

@@ -1,0 +1,18 @@
+-- What the parts of a machine have to do with its script.
+use Rattle.std.specs.Prelude.{◌≡◌, ℕ, List, [], ◌∷◌, map, Option, Some, None}
+use Rattle.std.specs.Option.{option_to_list}
+use Rattle.aq_base.specs.Catalogs.{Catalog}
+use Rattle.aq_base.specs.Setup.{catalog_of, program_of}
+use Rattle.aq_base.specs.declared.script.Script.{Script}
+use Rattle.aq_base.specs.declared.script.Bound.{Bound}
+use Rattle.aq_run.specs.States.{World, Session}
+use Rattle.aq_machine.specs.Orders.{Is_orderly}
+
+abbrev pub Is_orderly_in : World → Option Session → Type 0
+Is_orderly_in world None = Unit {0}
+Is_orderly_in world (Some session) = Is_orderly world session
+
+pub record Is_machine (script : Script) (catalog : Catalog) (statements : List Bound) (world : World) (session : Option Session) : Type 0 where
+  pub catalog_is : catalog ≡ catalog_of script
+  pub statements_are : (program_of script).sessions ≡ map (λ _. statements) (option_to_list session)
+  pub orderly : Is_orderly_in world session
