@@ -4,3 +4,4 @@ pub mod Finds
 pub mod Joins
 pub mod Commits
 pub mod StepKinds
+pub mod Sessions

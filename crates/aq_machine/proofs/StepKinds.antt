@@ -142,11 +142,12 @@ step-commits cat s statement world running answer next ended is = rw is refl
 
 -- ---- the row numbers after a step
 
-pub order-refused : (world : World) (running : In_progress) (replies : List Given) (next : ℕ) (ended : Bool) → Is_in_order world running
-    → Is_orderly (record world { replies = replies }) (holding next None ended)
-order-refused world running replies next ended order =
-    rw append-nil (Rises-front 0 (map (λ entry. entry.0) (last_database world)) (map (λ entry. entry.0) running.transaction.work.writes) world.rows order)
+pub order-refused : (world : World) (running : In_progress) {replies : List Given} (next : ℕ) (ended : Bool) (after : World) → Is_in_order world running
+    → after ≡ record world { replies = replies } → Is_orderly after (holding next None ended)
+order-refused world running next ended after order is =
+    rw (is, append-nil) (Rises-front 0 (map (λ entry. entry.0) (last_database world)) (map (λ entry. entry.0) running.transaction.work.writes) world.rows order)
 
-pub order-commits : (world : World) (running : In_progress) (replies : List Given) (next : ℕ) (ended : Bool) → Is_in_order world running
-    → Is_orderly (record world { history = world.history ++ latest_view world running.transaction.work ∷ []; replies = replies }) (holding next None ended)
-order-commits world running replies next ended order = Rises-commit (length world.history) world.rows world.history (last_database world) running.transaction.work.writes order
+pub order-commits : (world : World) (running : In_progress) {replies : List Given} (next : ℕ) (ended : Bool) (after : World) → Is_in_order world running
+    → after ≡ record world { history = world.history ++ latest_view world running.transaction.work ∷ []; replies = replies } → Is_orderly after (holding next None ended)
+order-commits world running next ended after order is =
+    rw is (Rises-commit (length world.history) world.rows world.history (last_database world) running.transaction.work.writes order)

@@ -5,7 +5,7 @@ use Rattle.aq_base.specs.Catalogs.{Catalog}
 use Rattle.aq_base.specs.Setup.{catalog_of, program_of}
 use Rattle.aq_base.specs.declared.script.Script.{Script}
 use Rattle.aq_base.specs.declared.script.Bound.{Bound}
-use Rattle.aq_run.specs.States.{World, Session}
+use Rattle.aq_run.specs.States.{World, Session, at_start}
 use Rattle.aq_machine.specs.Orders.{Is_orderly}
 
 abbrev pub Is_orderly_in : World → Option Session → Type 0
@@ -16,3 +16,8 @@ pub record Is_machine (script : Script) (catalog : Catalog) (statements : List B
   pub catalog_is : catalog ≡ catalog_of script
   pub statements_are : (program_of script).sessions ≡ map (λ _. statements) (option_to_list session)
   pub orderly : Is_orderly_in world session
+
+-- the statements and the session that a script's sessions make
+pub record Opens_sessions (sessions : List (List Bound)) (statements : List Bound) (session : Option Session) : Type 0 where
+  pub statements_are : sessions ≡ map (λ _. statements) (option_to_list session)
+  pub at_start_all : map (λ _. at_start) sessions ≡ option_to_list session

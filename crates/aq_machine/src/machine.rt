@@ -1,10 +1,11 @@
-ghost use Rattle.std.specs.Prelude.{◌≡◌, ◌&&◌, not, true, length, map, OnOk, OnErr, IfOk};
+ghost use Rattle.std.specs.Prelude.{◌≡◌, ◌&&◌, not, true, ◌≤◌, length, map, OnOk, OnErr, IfOk};
 ghost use Rattle.aq_base.specs.Scripts.{fits_first_language};
-ghost use Rattle.aq_base.specs.Setup.{program_of, catalog_of};
+ghost use Rattle.aq_base.specs.Setup.{program_of, catalog_of, bound_statements};
 ghost use Rattle.aq_run.specs.States.{opening, session_at, last_database};
 ghost use Rattle.aq_run.specs.Steps.{step, is_enabled};
 ghost use Rattle.aq_run.specs.Texts.{table_rows};
 ghost use Rattle.aq_machine.specs.Givens.{given_shown};
+ghost use Rattle.aq_machine.specs.Machines.{Opens_sessions};
 
 use crate::catalog::{Catalog, catalog_for, statements_for};
 use crate::numbers::SessNo;
@@ -12,7 +13,7 @@ use crate::replies::Given;
 use crate::session::Session;
 use crate::step::step_session;
 use crate::world::World;
-use aq_base::{Bound, List, NoMemory, Row, Script, TabNo, Table};
+use aq_base::{Bound, List, NoMemory, Row, Script, SessionText, TabNo, Table};
 use std::alloc::Global;
 use std::marker::Model;
 
@@ -40,6 +41,20 @@ impl Model for Machine {
     ghost invariant = { λ m. Is_machine m.script m.catalog m.statements m.world m.session };
 }
 
+/// The statements of the one session, and the session before them.
+fn opened(alloc: Global, catalog: &Catalog, sessions: &[SessionText]) -> Result<(List<Bound>, Option<Session>), NoMemory>
+    requires { length sessions.now ≤ 1 }
+    ensures { IfOk result (λ made. Opens_sessions (map (bound_statements catalog.now) sessions.now) made.0 made.1) }
+{
+    match sessions.split_first() {
+        None => Ok((List::new(alloc), None)),
+        Some((session, _)) => Ok((
+            statements_for(alloc, catalog, session)?,
+            Some(Session::at_start()),
+        )),
+    }
+}
+
 impl Machine {
     /// The machine before the first step. The error is want of memory.
     pub fn open(alloc: Global, script: Script) -> Result<Machine, NoMemory>
@@ -47,10 +62,7 @@ impl Machine {
         ensures { IfOk result (λ m. m ≡ record { script = script; state = opening (program_of script) }) }
     {
         let catalog = catalog_for(alloc, &script)?;
-        let (statements, session) = match script.sessions.get(0) {
-            None => (List::new(alloc), None),
-            Some(text) => (statements_for(alloc, &catalog, text)?, Some(Session::at_start())),
-        };
+        let (statements, session) = opened(alloc, &catalog, script.sessions.as_slice())?;
         Ok(Machine {
             alloc,
             script,
@@ -72,7 +84,10 @@ impl Machine {
     pub fn enabled(&self, s: SessNo) -> bool
         ensures { result ≡ is_enabled self.now.state s.0 }
     {
-        s.0 == 0 && !self.ended(s)
+        match &self.session {
+            Some(session) if s.0 == 0 => !session.ended,
+            _ => false,
+        }
     }
 
     /// Whether the session has ended. One that isn't there has.
@@ -93,7 +108,17 @@ impl Machine {
     {
         match &mut self.session {
             None => Ok(()),
-            Some(session) => step_session(self.alloc, &self.catalog, &self.statements, s, &mut self.world, session),
+            Some(session) => {
+                step_session(
+                    self.alloc,
+                    &self.catalog,
+                    &self.statements,
+                    s,
+                    &mut self.world,
+                    session,
+                )?;
+                Ok(())
+            }
         }
     }
 

@@ -111,6 +111,7 @@ fn rows_among(alloc: Global, versions: &[Version], t: TabNo) -> Result<List<Row>
 
 impl World {
     /// Before the first commit: database 0 is empty.
+    #[tactic(auto, unfolding(crate::specs::Versions::databases))]
     pub(crate) fn new(alloc: Global) -> World
         ensures { result ≡ record { history = [] ∷ []; rows = 0; writes = 0; replies = [] } }
     {

@@ -19,9 +19,10 @@ returns-in-Further-clause-ok c =
 pub returns-in_default-clause-ok : goal.returns-in_default-clause-ok
 returns-in_default-clause-ok c =
     let statement = slice_get c.args.statements.now c.session.inside.next in
-    let taken : c.start.new.session ≡ started statement c.args.session.now = rw c.get.ensures.value at c.in_ok-start.ensures.ok in
+    let before = holding c.session.inside.next None c.session.inside.ended in
     let none : c.session.inside.running ≡ None = search rules in
-    let P : Session → Type 0 = λ me. Steps_to c.args.catalog.now c.args.s.0 (slice_get c.args.statements.now me.next) c.args.world.now me c.args.world.now (started statement me) in
+    let taken : c.start.new.session ≡ started statement before = rw (c.get.ensures.value, none) at c.in_ok-start.ensures.ok in
+    let P : Session → Type 0 = λ me. Steps_to c.args.catalog.now c.args.s.0 (slice_get c.args.statements.now me.next) c.args.world.now me c.args.world.now (started statement before) in
     rw taken (subst P (rw none at c.session.view_is) (step-start c.args.catalog.now c.args.s.0 statement c.args.world.now c.session.inside.next c.session.inside.ended))
 
 pub returns-clause-ok : goal.returns-clause-ok
@@ -50,8 +51,10 @@ returns-clause-orderly c =
     elim c.match-branch-3.branch [
       | in-Refused+in_ok-refuse-in-Refused w ↦
         let went = rw w.in-Refused.is at c.in_ok-advance.ensures.ok in
-        rw (w.world-is, w.in_ok-refuse-in-Refused.ensures.ok, went.0) (order-refused c.args.world.now c.in-Some.running _ next ended order)
+        let after = rw went.0 at w.in_ok-refuse-in-Refused.ensures.ok in
+        rw w.world-is (order-refused c.args.world.now c.in-Some.running next ended w.refuse.new.world order after)
       | in-Commits+in_ok-commit-in-Commits w ↦
         let went = rw w.in-Commits.is at c.in_ok-advance.ensures.ok in
-        rw (w.world-is, w.in_ok-commit-in-Commits.ensures.ok, went.0, went.1) (order-commits c.args.world.now c.in-Some.running _ next ended order)
+        let after = rw (went.0, went.1) at w.in_ok-commit-in-Commits.ensures.ok in
+        rw w.world-is (order-commits c.args.world.now c.in-Some.running next ended w.commit.new.world order after)
     ]
