@@ -5,3 +5,4 @@ pub mod Joins
 pub mod Commits
 pub mod StepKinds
 pub mod Sessions
+pub mod Setups
