@@ -2,7 +2,7 @@
 use Rattle.std.proofs.Common.{◌≡◌, ℕ, ◌+◌, List, [], ◌∷◌, ◌++◌, map, length, refl, ap, sym, ◌∙◌}
 use Rattle.std.proofs.lemmas.List.{map-append, append-nil}
 use Rattle.aq_base.specs.Databases.{Database, Stored}
-use Rattle.aq_base.specs.Writes.{Write, Writes, overlay, stored_by}
+use Rattle.aq_base.specs.Writes.{Writes, overlay, stored_by}
 use Rattle.aq_run.specs.States.{last_of}
 use Rattle.aq_machine.specs.declared.world.Version.{Version}
 use Rattle.aq_machine.specs.Versions.{stored_entry, write_entry, with_commit, databases, Are_committed}
@@ -19,9 +19,9 @@ history-commit : (n rows : ℕ) (versions own : List Version) → Are_committed 
 history-commit n rows versions own all rises =
     let e = databases-commit n versions own all in
     let joined : map stored_entry (versions ++ map (with_commit (n + 1)) own) ≡ map stored_entry versions ++ map (λ entry. (entry.0, stored_by (n + 1) entry.1)) (map write_entry own) =
-        map-append stored_entry versions (map (with_commit (n + 1)) own) ∙ ap (λ es. map stored_entry versions ++ es) (stored-written (n + 1) own) in
+    map-append stored_entry versions (map (with_commit (n + 1)) own) ∙ ap (λ es. map stored_entry versions ++ es) (stored-written (n + 1) own) in
     let seen : overlay (length (databases n versions)) (map write_entry own) (last_of (databases n versions)) ≡ map stored_entry versions ++ map (λ entry. (entry.0, stored_by (n + 1) entry.1)) (map write_entry own) =
-        rw (overlay-rises (length (databases n versions)) (map write_entry own) (last_of (databases n versions)) rows rises, last_database-all n versions all, length-databases n versions) refl in
+    rw (overlay-rises (length (databases n versions)) (map write_entry own) (last_of (databases n versions)) rows rises, last_database-all n versions all, length-databases n versions) refl in
     e ∙ ap (λ db. databases n versions ++ db ∷ []) (joined ∙ sym seen)
 
 -- what the history is after a commit
@@ -42,6 +42,6 @@ pub Rises-commit : (commit rows : ℕ) (history : List Database) (db : Database)
     → Rises 0 (keys_of (last_of (history ++ overlay commit writes db ∷ [])) []) rows
 Rises-commit commit rows history db writes rises =
     let keys : keys_of (overlay commit writes db) [] ≡ keys_of db writes =
-        append-nil _ ∙ (ap (map {A = ℕ × Stored} (λ entry. entry.0)) (overlay-rises commit writes db rows rises)
-        ∙ (map-append {A = ℕ × Stored} (λ entry. entry.0) db (map (λ entry. (entry.0, stored_by commit entry.1)) writes) ∙ ap (λ ns. map {A = ℕ × Stored} (λ entry. entry.0) db ++ ns) (keys-written commit writes))) in
+    append-nil _ ∙ (ap (map {A = ℕ × Stored} (λ entry. entry.0)) (overlay-rises commit writes db rows rises)
+    ∙ (map-append {A = ℕ × Stored} (λ entry. entry.0) db (map (λ entry. (entry.0, stored_by commit entry.1)) writes) ∙ ap (λ ns. map {A = ℕ × Stored} (λ entry. entry.0) db ++ ns) (keys-written commit writes))) in
     rw (last_of-push history (overlay commit writes db), keys) rises

@@ -1,10 +1,10 @@
 -- The history of committed versions.
-use Rattle.std.proofs.Common.{◌≡◌, ℕ, zero, suc, ◌+◌, ◌≤◌, ◌<◌, Bool, true, false, List, [], ◌∷◌, ◌++◌, map, length, filter, nat_le, refl, ap, sym, ◌∙◌, cond, arith, rules, length-append, append_assoc, add-one, ◌==◌, ◌&&◌, ◌||◌}
-use Rattle.std.specs.List.{AllByRecursion, list_any}
+use Rattle.std.proofs.Common.{◌≡◌, ℕ, zero, suc, ◌+◌, ◌<◌, false, List, [], ◌∷◌, ◌++◌, map, length, filter, nat_le, refl, ap, ◌∙◌, cond, arith, length-append, add-one, ◌||◌}
+use Rattle.std.specs.List.{list_any}
 use Rattle.std.proofs.lemmas.Bool.Decides.{nat_tests}
 use Rattle.std.proofs.lemmas.Bool.{le-leb}
 use Rattle.aq_base.specs.Values.{Row}
-use Rattle.aq_base.specs.Databases.{Database, Stored, has_key}
+use Rattle.aq_base.specs.Databases.{Database, has_key}
 use Rattle.aq_run.specs.States.{last_of}
 use Rattle.aq_machine.specs.declared.world.Version.{Version}
 use Rattle.aq_machine.specs.Versions.{stored_entry, with_commit, version_has, database_at, databases, Are_committed}

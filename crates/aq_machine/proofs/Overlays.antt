@@ -1,16 +1,15 @@
 -- A database with a transaction's writes, where their row numbers rise.
-use Rattle.std.proofs.Common.{◌≡◌, ℕ, zero, suc, ◌+◌, ◌≤◌, ◌<◌, Bool, true, false, List, [], ◌∷◌, ◌++◌, map, length, nat_le, refl, ap, sym, ◌∙◌, cond, ◌||◌, arith, rules, append_assoc}
+use Rattle.std.proofs.Common.{◌≡◌, ℕ, ◌≤◌, ◌<◌, List, [], ◌∷◌, ◌++◌, map, refl, ap, sym, ◌||◌, arith, append_assoc}
 use Rattle.std.proofs.lemmas.List.{append-nil, map-append}
 use Rattle.std.specs.Ordering.{nat_cmp}
 use Rattle.std.specs.Cmp.{nat_cmp_is}
-use Rattle.std.specs.declared.cmp.Ordering.TheVariants.{Less, Equal, Greater}
-use Rattle.std.specs.FinMap.Entries.{put, by_order}
+use Rattle.std.specs.declared.cmp.Ordering.TheVariants.{Greater}
 use Rattle.std.specs.List.{list_any}
 use Rattle.std.proofs.lemmas.List.Folds.{list_any-append}
 use Rattle.aq_base.specs.Values.{Row}
 use Rattle.aq_base.specs.Maps.{with_at}
 use Rattle.aq_base.specs.Databases.{Database, Stored, has_key}
-use Rattle.aq_base.specs.Writes.{Write, Writes, overlay, stored_by}
+use Rattle.aq_base.specs.Writes.{Writes, overlay, stored_by}
 use Rattle.aq_machine.specs.declared.world.Version.{Version}
 use Rattle.aq_machine.specs.Versions.{write_entry, version_has, write_has}
 use Rattle.aq_machine.specs.Orders.{Rises, keys_of}

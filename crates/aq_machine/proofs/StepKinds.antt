@@ -6,21 +6,20 @@ use Rattle.aq_base.specs.declared.script.Bound.{Bound}
 use Rattle.aq_base.specs.Values.{Row}
 use Rattle.aq_base.specs.Maps.{with_at}
 use Rattle.aq_base.specs.Catalogs.{Catalog}
-use Rattle.aq_base.specs.Works.{Event, Opened, Work}
+use Rattle.aq_base.specs.Works.{Event}
 use Rattle.aq_base.specs.Writes.{Writes}
 use Rattle.aq_outcomes.specs.Faults.{Fault}
 use Rattle.aq_outcomes.specs.Rows.{insert_fault, insert_events}
 use Rattle.aq_run.specs.States.{World, Session, Given, Target, Answer, Task as Shown_task, last_database, latest_view}
 use Rattle.aq_run.specs.States.Operation.{Inserting}
 use Rattle.aq_run.specs.States.Target.{New_row}
-use Rattle.aq_run.specs.States.Answer.{Inserted}
 use Rattle.aq_run.specs.States.Task.{Rows as Rows_left, Rounds as Rounds_left, Committing as Commit_left}
 use Rattle.aq_run.specs.Effects.{effect, on_top, with_events, given}
 use Rattle.aq_run.specs.Replies.{answer_lines, error_lines}
 use Rattle.aq_run.specs.Effects.Effect.{Finishes}
 use Rattle.aq_run.specs.Steps.{event_plan, task_plan}
 use Rattle.aq_run.specs.Steps.Plan.{Does_all, Fails}
-use Rattle.aq_machine.specs.Runnings.{In_progress, running_plan, scene, carried_out, started, Steps_to}
+use Rattle.aq_machine.specs.Runnings.{In_progress, running_plan, started, Steps_to}
 use Rattle.aq_machine.specs.Shown.{task_shown, opened_at, answer_shown}
 use Rattle.aq_machine.specs.Advances.{Goes_further, HasNoRound, Is_in_order}
 use Rattle.aq_machine.specs.Orders.{Rises, keys_of, Is_orderly}
@@ -80,10 +79,12 @@ plan-refused cat world running table done values later fault is found me = rw (i
 -- the row that an INSERT writes next
 abbrev pub row_written : ℕ → ℕ → ℕ → Row → List Event → In_progress → In_progress
 row_written row write table values events running = record running {
-  transaction = record { work = record {
-    writes = running.transaction.work.writes ++ (row, record { table = table; image = values; number = write }) ∷ [];
-    opened = on_top (with_events events) running.transaction.work.opened;
-  } };
+  transaction = record {
+    work = record {
+      writes = running.transaction.work.writes ++ (row, record { table = table; image = values; number = write }) ∷ [];
+      opened = on_top (with_events events) running.transaction.work.opened;
+    };
+  };
 }
 
 pub goes-insert : (cat : Catalog) (world : World) (running : In_progress) (table done : ℕ) (values : Row) (later : List Target)
@@ -93,8 +94,8 @@ pub goes-insert : (cat : Catalog) (world : World) (running : In_progress) (table
 unfolding effect
 goes-insert cat world running table done values later is none order =
     let last : with_at (world.rows + 1) (record { table = table; image = values; number = world.writes + 1 }) running.transaction.work.writes
-            ≡ running.transaction.work.writes ++ (world.rows + 1, record { table = table; image = values; number = world.writes + 1 }) ∷ [] =
-        with_at-last (map (λ entry. entry.0) (last_database world)) running.transaction.work.writes world.rows (world.rows + 1) (record { table = table; image = values; number = world.writes + 1 }) order (omega arith) in
+    ≡ running.transaction.work.writes ++ (world.rows + 1, record { table = table; image = values; number = world.writes + 1 }) ∷ [] =
+    with_at-last (map (λ entry. entry.0) (last_database world)) running.transaction.work.writes world.rows (world.rows + 1) (record { table = table; image = values; number = world.writes + 1 }) order (omega arith) in
     λ s me. rw (is, none, last) refl
 
 pub order-insert : (world : World) (running : In_progress) (write table : ℕ) (values : Row) (events : List Event) → Is_in_order world running

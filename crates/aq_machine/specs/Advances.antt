@@ -3,7 +3,7 @@ use Rattle.std.specs.Prelude.{◌≡◌, ℕ, ◌+◌, List, [], ◌∷◌, ◌+
 use Rattle.std.specs.List.{AllByRecursion}
 use Rattle.aq_base.specs.Values.{Row}
 use Rattle.aq_base.specs.Catalogs.{Catalog}
-use Rattle.aq_run.specs.States.{Task, Target, Session, World, last_database, latest_view}
+use Rattle.aq_run.specs.States.{Target, Session, World, last_database, latest_view}
 use Rattle.aq_run.specs.States.Task.{Rows, Committing}
 use Rattle.aq_run.specs.States.Target.{New_row}
 use Rattle.aq_run.specs.States.Operation.{Inserting}
@@ -40,10 +40,12 @@ abbrev pub Inserts_row : Change → In_progress → In_progress → Type 0
 Inserts_row change running left =
     (values : Row) (later : List Target) (done : ℕ) → running.task ≡ Rows (Inserting change.table) (New_row values ∷ later) done
     → left ≡ record {
-      transaction = record { work = record {
-        writes = running.transaction.work.writes ++ (change.row, record { table = change.table; image = values; number = change.write }) ∷ [];
-        opened = on_top (with_events change.events.items) running.transaction.work.opened;
-      } };
+      transaction = record {
+        work = record {
+          writes = running.transaction.work.writes ++ (change.row, record { table = change.table; image = values; number = change.write }) ∷ [];
+          opened = on_top (with_events change.events.items) running.transaction.work.opened;
+        };
+      };
       task = Rows (Inserting change.table) later (done + 1);
     }
 

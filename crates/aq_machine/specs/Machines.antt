@@ -1,5 +1,5 @@
 -- What the parts of a machine have to do with its script.
-use Rattle.std.specs.Prelude.{◌≡◌, ℕ, List, [], ◌∷◌, map, Option, Some, None}
+use Rattle.std.specs.Prelude.{◌≡◌, List, map, Option, Some, None}
 use Rattle.std.specs.Option.{option_to_list}
 use Rattle.aq_base.specs.Catalogs.{Catalog}
 use Rattle.aq_base.specs.Setup.{catalog_of, program_of}

@@ -1,7 +1,7 @@
 -- What is in progress in a session, as the definitions of the run have it.
 use Rattle.std.specs.Prelude.{List, [], ◌∷◌, map}
 use Rattle.aq_base.specs.Works.{Event, Opened}
-use Rattle.aq_run.specs.States.{Answer, Task, Transaction, Session}
+use Rattle.aq_run.specs.States.{Answer, Task}
 use Rattle.aq_run.specs.States.Operation.{Inserting}
 use Rattle.aq_run.specs.States.Target.{New_row}
 use Rattle.aq_run.specs.States.Answer.{Inserted}

@@ -1,5 +1,5 @@
 -- Versions of rows: as a transaction wrote them, and as the history has them.
-use Rattle.std.specs.Prelude.{ℕ, zero, suc, ◌+◌, ◌≤◌, Bool, ◌&&◌, ◌==◌, List, [], ◌∷◌, ◌++◌, map, filter, nat_le}
+use Rattle.std.specs.Prelude.{ℕ, zero, suc, ◌≤◌, Bool, ◌&&◌, ◌==◌, List, [], ◌∷◌, ◌++◌, map, filter, nat_le}
 use Rattle.std.specs.List.{AllByRecursion}
 use Rattle.aq_base.specs.Values.{Row, keys_match, values_at}
 use Rattle.aq_base.specs.Databases.{Stored, Database}

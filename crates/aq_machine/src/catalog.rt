@@ -125,7 +125,11 @@ impl Catalog {
     }
 
     /// What REFERENCES of a table refers to.
-    fn referred(&self, alloc: Global, parent: &TextVal) -> Result<Option<(TabNo, List<ColNo>)>, NoMemory>
+    fn referred(
+        &self,
+        alloc: Global,
+        parent: &TextVal,
+    ) -> Result<Option<(TabNo, List<ColNo>)>, NoMemory>
         ensures { IfOk result (λ found. found ≡ referred parent.now self.now) }
     {
         let Some(number) = self.table_number(parent) else {
@@ -137,7 +141,14 @@ impl Catalog {
         }
     }
 
-    fn add_key(&mut self, alloc: Global, number: TabNo, table: &TextVal, col: ColNo, constraint: &Option<ColumnConstraint>) -> Result<(), NoMemory>
+    fn add_key(
+        &mut self,
+        alloc: Global,
+        number: TabNo,
+        table: &TextVal,
+        col: ColNo,
+        constraint: &Option<ColumnConstraint>,
+    ) -> Result<(), NoMemory>
         ensures { OnOk result (self.new ≡ adds_key number table.now col constraint.now self.old) }
     {
         if let Some(ColumnConstraint::PrimaryKey) = constraint {
@@ -150,17 +161,37 @@ impl Catalog {
         Ok(())
     }
 
-    fn add_keys(&mut self, alloc: Global, number: TabNo, table: &TextVal, items: &[ColumnItem]) -> Result<(), NoMemory>
+    fn add_keys(
+        &mut self,
+        alloc: Global,
+        number: TabNo,
+        table: &TextVal,
+        items: &[ColumnItem],
+    ) -> Result<(), NoMemory>
         requires { length items.now ≤ 32 }
         ensures keys { OnOk result (self.new ≡ adds_keys number table.now 0 items.now self.old) }
     {
         'items: for (col, item) in items.iter().enumerate() {
-            self.add_key(alloc, number, table, ColNo::new(col as u16), &item.constraint)?;
+            self.add_key(
+                alloc,
+                number,
+                table,
+                ColNo::new(col as u16),
+                &item.constraint,
+            )?;
         }
         Ok(())
     }
 
-    fn add_foreign_key(&mut self, alloc: Global, number: TabNo, table: &TextVal, col: ColNo, name: &TextVal, parent: (TabNo, List<ColNo>)) -> Result<(), NoMemory>
+    fn add_foreign_key(
+        &mut self,
+        alloc: Global,
+        number: TabNo,
+        table: &TextVal,
+        col: ColNo,
+        name: &TextVal,
+        parent: (TabNo, List<ColNo>),
+    ) -> Result<(), NoMemory>
         requires { length self.old.fks < 65535 }
         ensures { OnOk result (self.new ≡ adds_foreign_key number table.now col name.now (Some parent) self.old) }
     {
@@ -180,7 +211,15 @@ impl Catalog {
         })
     }
 
-    fn add_reference(&mut self, alloc: Global, number: TabNo, table: &TextVal, col: ColNo, name: &TextVal, constraint: &Option<ColumnConstraint>) -> Result<(), NoMemory>
+    fn add_reference(
+        &mut self,
+        alloc: Global,
+        number: TabNo,
+        table: &TextVal,
+        col: ColNo,
+        name: &TextVal,
+        constraint: &Option<ColumnConstraint>,
+    ) -> Result<(), NoMemory>
         requires { length self.old.fks < 65535 }
         ensures added { OnOk result (self.new ≡ adds_reference number table.now col name.now constraint.now self.old) }
         ensures count { OnOk result (length self.new.fks ≤ length self.old.fks + 1) }
@@ -194,18 +233,36 @@ impl Catalog {
         }
     }
 
-    fn add_references(&mut self, alloc: Global, number: TabNo, table: &TextVal, items: &[ColumnItem]) -> Result<(), NoMemory>
+    fn add_references(
+        &mut self,
+        alloc: Global,
+        number: TabNo,
+        table: &TextVal,
+        items: &[ColumnItem],
+    ) -> Result<(), NoMemory>
         requires items { length items.now ≤ 32 }
         requires room { length self.old.fks ≤ 128 }
         ensures { OnOk result (self.new ≡ adds_references number table.now 0 items.now self.old) }
     {
         'items: for (col, item) in items.iter().enumerate() {
-            self.add_reference(alloc, number, table, ColNo::new(col as u16), &item.name, &item.constraint)?;
+            self.add_reference(
+                alloc,
+                number,
+                table,
+                ColNo::new(col as u16),
+                &item.name,
+                &item.constraint,
+            )?;
         }
         Ok(())
     }
 
-    fn add_table(&mut self, alloc: Global, table: &TextVal, items: &[ColumnItem]) -> Result<(), NoMemory>
+    fn add_table(
+        &mut self,
+        alloc: Global,
+        table: &TextVal,
+        items: &[ColumnItem],
+    ) -> Result<(), NoMemory>
         requires { length self.old.tables < 64 }
         ensures { OnOk result (self.new ≡ adds_table table.now items.now self.old) }
     {
@@ -215,7 +272,12 @@ impl Catalog {
         })
     }
 
-    fn create(&mut self, alloc: Global, table: &TextVal, items: &[ColumnItem]) -> Result<(), NoMemory>
+    fn create(
+        &mut self,
+        alloc: Global,
+        table: &TextVal,
+        items: &[ColumnItem],
+    ) -> Result<(), NoMemory>
         requires { can_create self.old table.now items.now ≡ true }
         ensures { OnOk result (self.new ≡ creates table.now items.now self.old) }
     {
@@ -248,7 +310,11 @@ pub(crate) fn catalog_for(alloc: Global, script: &Script) -> Result<Catalog, NoM
     Ok(catalog)
 }
 
-fn bound_of(alloc: Global, catalog: &Catalog, statement: &Statement) -> Result<Option<Bound>, NoMemory>
+fn bound_of(
+    alloc: Global,
+    catalog: &Catalog,
+    statement: &Statement,
+) -> Result<Option<Bound>, NoMemory>
     ensures { IfOk result (λ found. found ≡ bound catalog.now statement.now) }
 {
     let Statement::Insert { table, rows } = statement else {
@@ -264,7 +330,11 @@ fn bound_of(alloc: Global, catalog: &Catalog, statement: &Statement) -> Result<O
 }
 
 /// The statements of a session, with numbers in place of names.
-pub(crate) fn statements_for(alloc: Global, catalog: &Catalog, session: &SessionText) -> Result<List<Bound>, NoMemory>
+pub(crate) fn statements_for(
+    alloc: Global,
+    catalog: &Catalog,
+    session: &SessionText,
+) -> Result<List<Bound>, NoMemory>
     ensures { IfOk result (λ statements. statements ≡ bound_statements catalog.now session.now) }
 {
     let mut statements = List::new(alloc);

@@ -25,7 +25,13 @@ pub(crate) enum Fault<'a> {
 }
 
 /// Whether a row that the transaction sees is in the table and has the key.
-fn view_has_row(world: &World, running: &Running, table: TabNo, cols: &[ColNo], key: &[Value]) -> bool
+fn view_has_row(
+    world: &World,
+    running: &Running,
+    table: TabNo,
+    cols: &[ColNo],
+    key: &[Value],
+) -> bool
     requires { Rises 0 (keys_of (last_database world.now) running.now.transaction.work.writes) world.now.rows }
     ensures { result ≡ list_any (λ entry. has_key table cols.now key.now entry.1) (latest_view world.now running.now.transaction.work) }
 {
@@ -33,13 +39,24 @@ fn view_has_row(world: &World, running: &Running, table: TabNo, cols: &[ColNo], 
 }
 
 /// What a unique key has against a new row: another row of its table with the same values.
-fn key_fault<'a>(key: &'a UniqueKey, world: &World, running: &Running, row: &Row) -> Result<Option<Fault<'a>>, NoMemory>
+fn key_fault<'a>(
+    key: &'a UniqueKey,
+    world: &World,
+    running: &Running,
+    row: &Row,
+) -> Result<Option<Fault<'a>>, NoMemory>
     requires { Rises 0 (keys_of (last_database world.now) running.now.transaction.work.writes) world.now.rows }
     ensures { IfOk result (λ found. option_map fault_shown found
         ≡ (if is_taken (latest_view world.now running.now.transaction.work) row.now key.now then Some (Duplicate key.now (values_at key.now.cols row.now)) else None)) }
 {
     let values = key_of(row, key.cols.as_slice())?;
-    if view_has_row(world, running, key.table, key.cols.as_slice(), values.as_slice()) {
+    if view_has_row(
+        world,
+        running,
+        key.table,
+        key.cols.as_slice(),
+        values.as_slice(),
+    ) {
         Ok(Some(Fault::Duplicate { key, values }))
     } else {
         Ok(None)
@@ -47,7 +64,13 @@ fn key_fault<'a>(key: &'a UniqueKey, world: &World, running: &Running, row: &Row
 }
 
 /// What refuses a new row: the first unique key of its table that another row has.
-pub(crate) fn insert_fault_of<'a>(catalog: &'a Catalog, world: &World, running: &Running, table: TabNo, row: &Row) -> Result<Option<Fault<'a>>, NoMemory>
+pub(crate) fn insert_fault_of<'a>(
+    catalog: &'a Catalog,
+    world: &World,
+    running: &Running,
+    table: TabNo,
+    row: &Row,
+) -> Result<Option<Fault<'a>>, NoMemory>
     requires { Rises 0 (keys_of (last_database world.now) running.now.transaction.work.writes) world.now.rows }
     ensures { IfOk result (λ found. option_map fault_shown found ≡ insert_fault catalog.now (latest_view world.now running.now.transaction.work) table row.now) }
 {
@@ -76,7 +99,12 @@ fn all_are_values(key: &[Value]) -> bool
 
 /// What a foreign key has against the version of an event: no row of the parent table has its values.
 /// A version that is no longer the newest is not looked at, nor is one with a null in the key.
-fn child_fault<'a>(fk: &'a ForeignKey, event: &Event, world: &World, running: &Running) -> Result<Option<Fault<'a>>, NoMemory>
+fn child_fault<'a>(
+    fk: &'a ForeignKey,
+    event: &Event,
+    world: &World,
+    running: &Running,
+) -> Result<Option<Fault<'a>>, NoMemory>
     requires { Rises 0 (keys_of (last_database world.now) running.now.transaction.work.writes) world.now.rows }
     ensures { IfOk result (λ found. check_plan (child_check fk.now event.now running.now.transaction.work.writes (latest_view world.now running.now.transaction.work)) ≡ event_done (option_map fault_shown found)) }
 {
@@ -84,7 +112,15 @@ fn child_fault<'a>(fk: &'a ForeignKey, event: &Event, world: &World, running: &R
         return Ok(None);
     }
     let values = key_of(&event.new, fk.child_cols.as_slice())?;
-    if !all_are_values(values.as_slice()) || view_has_row(world, running, fk.parent, fk.parent_cols.as_slice(), values.as_slice()) {
+    if !all_are_values(values.as_slice())
+        || view_has_row(
+            world,
+            running,
+            fk.parent,
+            fk.parent_cols.as_slice(),
+            values.as_slice(),
+        )
+    {
         Ok(None)
     } else {
         Ok(Some(Fault::Missing { fk, values }))
@@ -92,7 +128,12 @@ fn child_fault<'a>(fk: &'a ForeignKey, event: &Event, world: &World, running: &R
 }
 
 /// What refuses an event, by its trigger.
-pub(crate) fn event_fault<'a>(catalog: &'a Catalog, event: &Event, world: &World, running: &Running) -> Result<Option<Fault<'a>>, NoMemory>
+pub(crate) fn event_fault<'a>(
+    catalog: &'a Catalog,
+    event: &Event,
+    world: &World,
+    running: &Running,
+) -> Result<Option<Fault<'a>>, NoMemory>
     requires { Rises 0 (keys_of (last_database world.now) running.now.transaction.work.writes) world.now.rows }
     ensures { IfOk result (λ found. event_plan catalog.now world.now running.now.transaction.work event.now ≡ event_done (option_map fault_shown found)) }
 {

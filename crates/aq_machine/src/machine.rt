@@ -42,7 +42,11 @@ impl Model for Machine {
 }
 
 /// The statements of the one session, and the session before them.
-fn opened(alloc: Global, catalog: &Catalog, sessions: &[SessionText]) -> Result<(List<Bound>, Option<Session>), NoMemory>
+fn opened(
+    alloc: Global,
+    catalog: &Catalog,
+    sessions: &[SessionText],
+) -> Result<(List<Bound>, Option<Session>), NoMemory>
     requires { length sessions.now ≤ 1 }
     ensures { IfOk result (λ made. Opens_sessions (map (bound_statements catalog.now) sessions.now) made.0 made.1) }
 {

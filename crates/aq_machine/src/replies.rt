@@ -11,7 +11,9 @@ use crate::catalog::Catalog;
 use crate::checks::Fault;
 use crate::numbers::SessNo;
 use crate::session::Answer;
-use aq_base::{Code, ColNo, ForeignKey, Key, List, NoMemory, ReplyLine, TabNo, TextVal, UniqueKey, Value};
+use aq_base::{
+    Code, ColNo, ForeignKey, Key, List, NoMemory, ReplyLine, TabNo, TextVal, UniqueKey, Value,
+};
 use std::alloc::Global;
 
 /// A line of a reply, with the session and the number of its statement, counted from 1.
@@ -23,7 +25,12 @@ pub struct Given {
 }
 
 /// The lines, each with the session and the number of its statement.
-pub(crate) fn given_lines(alloc: Global, session: SessNo, statement: u32, lines: Vec<ReplyLine>) -> Result<List<Given>, NoMemory>
+pub(crate) fn given_lines(
+    alloc: Global,
+    session: SessNo,
+    statement: u32,
+    lines: Vec<ReplyLine>,
+) -> Result<List<Given>, NoMemory>
     ensures { IfOk result (λ made. map given_shown made ≡ given session.0 statement lines.items) }
 {
     let mut made = List::new(alloc);
@@ -97,7 +104,12 @@ fn push_values(out: &mut String, values: &[Value]) -> Result<(), NoMemory>
     }
 }
 
-fn push_col_name(out: &mut String, catalog: &Catalog, table: TabNo, col: ColNo) -> Result<(), NoMemory>
+fn push_col_name(
+    out: &mut String,
+    catalog: &Catalog,
+    table: TabNo,
+    col: ColNo,
+) -> Result<(), NoMemory>
     ensures { OnOk result (string_bytes out.new ≡ string_bytes out.old ++ col_name catalog.now table col) }
 {
     let Some(table) = catalog.tables.get(usize::from(table.get())) else {
@@ -109,7 +121,12 @@ fn push_col_name(out: &mut String, catalog: &Catalog, table: TabNo, col: ColNo) 
     }
 }
 
-fn push_later_col_names(out: &mut String, catalog: &Catalog, table: TabNo, cols: &[ColNo]) -> Result<(), NoMemory>
+fn push_later_col_names(
+    out: &mut String,
+    catalog: &Catalog,
+    table: TabNo,
+    cols: &[ColNo],
+) -> Result<(), NoMemory>
     ensures { OnOk result (string_bytes out.new ≡ string_bytes out.old ++ behind (map (col_name catalog.now table) cols.now)) }
 {
     'cols: for col in cols {
@@ -120,7 +137,12 @@ fn push_later_col_names(out: &mut String, catalog: &Catalog, table: TabNo, cols:
 }
 
 /// The names of the columns with `, ` between each two.
-fn push_col_names(out: &mut String, catalog: &Catalog, table: TabNo, cols: &[ColNo]) -> Result<(), NoMemory>
+fn push_col_names(
+    out: &mut String,
+    catalog: &Catalog,
+    table: TabNo,
+    cols: &[ColNo],
+) -> Result<(), NoMemory>
     ensures { OnOk result (string_bytes out.new ≡ string_bytes out.old ++ joined (map (col_name catalog.now table) cols.now)) }
 {
     match cols.split_first() {
@@ -142,7 +164,13 @@ fn push_table_name(out: &mut String, catalog: &Catalog, table: TabNo) -> Result<
     }
 }
 
-fn push_key(out: &mut String, catalog: &Catalog, table: TabNo, cols: &[ColNo], values: &[Value]) -> Result<(), NoMemory>
+fn push_key(
+    out: &mut String,
+    catalog: &Catalog,
+    table: TabNo,
+    cols: &[ColNo],
+    values: &[Value],
+) -> Result<(), NoMemory>
     ensures { OnOk result (string_bytes out.new ≡ string_bytes out.old ++ key_text catalog.now table cols.now values.now) }
 {
     out.push_str("Key (")?;
@@ -176,11 +204,22 @@ fn duplicate_text(alloc: Global, key: &UniqueKey) -> Result<TextVal, NoMemory>
     Ok(TextVal::from_string(out))
 }
 
-fn duplicate_detail(alloc: Global, catalog: &Catalog, key: &UniqueKey, values: &Key) -> Result<TextVal, NoMemory>
+fn duplicate_detail(
+    alloc: Global,
+    catalog: &Catalog,
+    key: &UniqueKey,
+    values: &Key,
+) -> Result<TextVal, NoMemory>
     ensures { IfOk result (λ text. text ≡ key_text catalog.now key.now.table key.now.cols values.now ++ codes " already exists.") }
 {
     let mut out = String::new(alloc);
-    push_key(&mut out, catalog, key.table, key.cols.as_slice(), values.as_slice())?;
+    push_key(
+        &mut out,
+        catalog,
+        key.table,
+        key.cols.as_slice(),
+        values.as_slice(),
+    )?;
     out.push_str(" already exists.")?;
     Ok(TextVal::from_string(out))
 }
@@ -196,12 +235,23 @@ fn missing_text(alloc: Global, catalog: &Catalog, fk: &ForeignKey) -> Result<Tex
     Ok(TextVal::from_string(out))
 }
 
-fn missing_detail(alloc: Global, catalog: &Catalog, fk: &ForeignKey, values: &Key) -> Result<TextVal, NoMemory>
+fn missing_detail(
+    alloc: Global,
+    catalog: &Catalog,
+    fk: &ForeignKey,
+    values: &Key,
+) -> Result<TextVal, NoMemory>
     ensures { IfOk result (λ text. text ≡ key_text catalog.now fk.now.child fk.now.child_cols values.now
         ++ codes " is not present in table " ++ quoted (table_name catalog.now fk.now.parent) ++ codes ".") }
 {
     let mut out = String::new(alloc);
-    push_key(&mut out, catalog, fk.child, fk.child_cols.as_slice(), values.as_slice())?;
+    push_key(
+        &mut out,
+        catalog,
+        fk.child,
+        fk.child_cols.as_slice(),
+        values.as_slice(),
+    )?;
     out.push_str(" is not present in table ")?;
     push_quoted_table(&mut out, catalog, fk.parent)?;
     out.push_str(".")?;
@@ -209,12 +259,24 @@ fn missing_detail(alloc: Global, catalog: &Catalog, fk: &ForeignKey, values: &Ke
 }
 
 /// The lines of a statement that was refused.
-pub(crate) fn fault_lines(alloc: Global, catalog: &Catalog, fault: &Fault) -> Result<Vec<ReplyLine>, NoMemory>
+pub(crate) fn fault_lines(
+    alloc: Global,
+    catalog: &Catalog,
+    fault: &Fault,
+) -> Result<Vec<ReplyLine>, NoMemory>
     ensures { IfOk result (λ lines. lines.items ≡ error_lines catalog.now (fault_shown fault.now)) }
 {
     let (code, text, detail) = match fault {
-        Fault::Duplicate { key, values } => (Code(*b"23505"), duplicate_text(alloc, key)?, duplicate_detail(alloc, catalog, key, values)?),
-        Fault::Missing { fk, values } => (Code(*b"23503"), missing_text(alloc, catalog, fk)?, missing_detail(alloc, catalog, fk, values)?),
+        Fault::Duplicate { key, values } => (
+            Code(*b"23505"),
+            duplicate_text(alloc, key)?,
+            duplicate_detail(alloc, catalog, key, values)?,
+        ),
+        Fault::Missing { fk, values } => (
+            Code(*b"23503"),
+            missing_text(alloc, catalog, fk)?,
+            missing_detail(alloc, catalog, fk, values)?,
+        ),
     };
     let mut lines = Vec::new(alloc);
     lines.push(ReplyLine::Error { code, text })?;

@@ -48,9 +48,13 @@ pub(crate) enum Task {
         done: u64,
     },
     /// The rounds of the statement's level, and then its answer.
-    Rounds { answer: Answer },
+    Rounds {
+        answer: Answer,
+    },
     /// The transaction commits, and then the answer is given.
-    Committing { answer: Answer },
+    Committing {
+        answer: Answer,
+    },
 }
 
 /// A statement in progress with its transaction: the writes in the order of their rows, the events queued at its
@@ -72,8 +76,8 @@ impl Model for Running {
     ghost Value = { In_progress };
 
     ghost view = { λ r. record {
-        transaction = record { work = record { writes = map write_entry r.writes.items; opened = opened_at r.task r.queued.items r.round.items } };
-        task = task_shown r.task;
+      transaction = record { work = record { writes = map write_entry r.writes.items; opened = opened_at r.task r.queued.items r.round.items } };
+      task = task_shown r.task;
     } };
 }
 
@@ -93,10 +97,10 @@ impl Model for Session {
     ghost Value = { Seen };
 
     ghost view = { λ s. record {
-        next = s.next;
-        transaction = option_map (λ r. r.transaction) s.running;
-        tasks = map (λ r. r.task) (option_to_list s.running);
-        ended = s.ended;
+      next = s.next;
+      transaction = option_map (λ r. r.transaction) s.running;
+      tasks = map (λ r. r.task) (option_to_list s.running);
+      ended = s.ended;
     } };
 }
 
@@ -146,13 +150,25 @@ impl Running {
 
 /// The events that a new row queues: one for each trigger of its table that fires on INSERT, in their order.
 /// The error is want of memory.
-pub(crate) fn events_of(alloc: Global, catalog: &Catalog, table: TabNo, row: RowNo, write: u64, values: &Row) -> Result<VecDeque<Event>, NoMemory>
+pub(crate) fn events_of(
+    alloc: Global,
+    catalog: &Catalog,
+    table: TabNo,
+    row: RowNo,
+    write: u64,
+    values: &Row,
+) -> Result<VecDeque<Event>, NoMemory>
     ensures { IfOk result (λ events. events.items ≡ insert_events catalog.now table row write values.now) }
 {
     let mut events = VecDeque::new(alloc);
     'triggers: for (number, trigger) in catalog.triggers.as_slice().iter().enumerate() {
         if fires_on_insert(trigger, table) {
-            events.push_back(Event { trigger: number, row, write, new: values.copy()? })?;
+            events.push_back(Event {
+                trigger: number,
+                row,
+                write,
+                new: values.copy()?,
+            })?;
         }
     }
     Ok(events)

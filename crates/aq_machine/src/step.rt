@@ -89,7 +89,13 @@ enum Advanced<'a> {
 }
 
 /// Draws the numbers of a new row. A counter at its end is want of memory.
-fn new_row(alloc: Global, catalog: &Catalog, world: &World, table: TabNo, values: &Row) -> Result<Change, NoMemory>
+fn new_row(
+    alloc: Global,
+    catalog: &Catalog,
+    world: &World,
+    table: TabNo,
+    values: &Row,
+) -> Result<Change, NoMemory>
     ensures { IfOk result (λ change. (change.table ≡ table) × (change.row ≡ world.now.rows + 1) × (change.write ≡ world.now.writes + 1)
         × (change.events.items ≡ insert_events catalog.now table (world.now.rows + 1) (world.now.writes + 1) values.now)) }
 {
@@ -150,7 +156,12 @@ fn next_round(running: &mut Running, answer: Answer)
 
 /// A step of the rounds of a statement's level: the first event of the round in progress, or the events queued since
 /// as the next round, or the close of the level where there are none.
-fn rounds_step<'a>(catalog: &'a Catalog, world: &World, running: &mut Running, answer: Answer) -> Result<Advanced<'a>, NoMemory>
+fn rounds_step<'a>(
+    catalog: &'a Catalog,
+    world: &World,
+    running: &mut Running,
+    answer: Answer,
+) -> Result<Advanced<'a>, NoMemory>
     requires order { Is_in_order world.now running.old }
     requires rounds { running.old.task ≡ Rounds_left (answer_shown answer) }
     ensures ok { IfOk result (Advances catalog.now world.now running.old world.now running.new) }
@@ -175,7 +186,14 @@ enum Planned<'a> {
 }
 
 /// Looks for what refuses a new row, and else draws its numbers.
-fn plan_row<'a>(alloc: Global, catalog: &'a Catalog, world: &World, running: &Running, table: TabNo, values: &Row) -> Result<Planned<'a>, NoMemory>
+fn plan_row<'a>(
+    alloc: Global,
+    catalog: &'a Catalog,
+    world: &World,
+    running: &Running,
+    table: TabNo,
+    values: &Row,
+) -> Result<Planned<'a>, NoMemory>
     requires { Is_in_order world.now running.now }
     ensures { IfOk result (Plans_row catalog.now world.now running.now table values.now) }
 {
@@ -199,7 +217,12 @@ fn draw_and_insert(change: Change, world: &mut World, running: &mut Running) -> 
 }
 
 /// A step of a statement in progress.
-fn advance<'a>(alloc: Global, catalog: &'a Catalog, world: &mut World, running: &mut Running) -> Result<Advanced<'a>, NoMemory>
+fn advance<'a>(
+    alloc: Global,
+    catalog: &'a Catalog,
+    world: &mut World,
+    running: &mut Running,
+) -> Result<Advanced<'a>, NoMemory>
     requires { Is_in_order world.old running.old }
     ensures ok { IfOk result (Advances catalog.now world.old running.old world.new running.new) }
     ensures err { OnErr result ((world.new ≡ world.old) × (running.new ≡ running.old)) }
@@ -228,7 +251,14 @@ fn advance<'a>(alloc: Global, catalog: &'a Catalog, world: &mut World, running: 
 }
 
 /// Gives a refusal as the reply of the statement.
-fn refuse(alloc: Global, catalog: &Catalog, s: SessNo, statement: u32, world: &mut World, fault: Fault) -> Result<(), NoMemory>
+fn refuse(
+    alloc: Global,
+    catalog: &Catalog,
+    s: SessNo,
+    statement: u32,
+    world: &mut World,
+    fault: Fault,
+) -> Result<(), NoMemory>
     ensures ok { OnOk result (world.new ≡ record world.old { replies = world.old.replies ++ given s.0 statement (error_lines catalog.now (fault_shown fault.entry)) }) }
     ensures err { OnErr result (world.new ≡ world.old) }
 {
@@ -237,11 +267,18 @@ fn refuse(alloc: Global, catalog: &Catalog, s: SessNo, statement: u32, world: &m
 }
 
 /// Commits the transaction of a statement, and gives the answer as its reply.
-fn commit(alloc: Global, s: SessNo, statement: u32, world: &mut World, running: &mut Running, answer: Answer) -> Result<(), NoMemory>
+fn commit(
+    alloc: Global,
+    s: SessNo,
+    statement: u32,
+    world: &mut World,
+    running: &mut Running,
+    answer: Answer,
+) -> Result<(), NoMemory>
     requires { Is_in_order world.old running.old }
     ensures ok { OnOk result (world.new ≡ record world.old {
-        history = world.old.history ++ latest_view world.old running.old.transaction.work ∷ [];
-        replies = world.old.replies ++ given s.0 statement (answer_lines (answer_shown answer));
+      history = world.old.history ++ latest_view world.old running.old.transaction.work ∷ [];
+      replies = world.old.replies ++ given s.0 statement (answer_lines (answer_shown answer));
     }) }
     ensures err { OnErr result ((world.new ≡ world.old) × (running.new ≡ running.old)) }
 {
@@ -253,7 +290,14 @@ fn commit(alloc: Global, s: SessNo, statement: u32, world: &mut World, running: 
 
 /// One step of a session: the session takes its next statement, or the one in progress goes on.
 /// The error is want of memory, or a counter at its end.
-pub(crate) fn step_session(alloc: Global, catalog: &Catalog, statements: &List<Bound>, s: SessNo, world: &mut World, session: &mut Session) -> Result<(), NoMemory>
+pub(crate) fn step_session(
+    alloc: Global,
+    catalog: &Catalog,
+    statements: &List<Bound>,
+    s: SessNo,
+    world: &mut World,
+    session: &mut Session,
+) -> Result<(), NoMemory>
     requires { Is_orderly world.old session.old }
     ensures ok { OnOk result (Steps_to catalog.now s.0 (slice_get statements.now session.old.next) world.old session.old world.new session.new) }
     ensures orderly { OnOk result (Is_orderly world.new session.new) }

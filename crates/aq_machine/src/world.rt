@@ -65,9 +65,10 @@ pub(crate) fn row_has_key(row: &Row, cols: &[ColNo], key: &[Value]) -> bool
 {
     let mut cols_left = cols;
     let mut values_left = key;
-    'values: while let (Some((col, cols)), Some((value, values))) =
-        (cols_left.split_first(), values_left.split_first())
-    {
+    'values: while let (Some((col, cols)), Some((value, values))) = (
+        cols_left.split_first(),
+        values_left.split_first(),
+    ) {
         if !cell_matches(row.get(usize::from(col.get())), value) {
             return false;
         }
@@ -78,7 +79,12 @@ pub(crate) fn row_has_key(row: &Row, cols: &[ColNo], key: &[Value]) -> bool
 }
 
 /// Whether one of the versions is in the table and has the key.
-pub(crate) fn some_version_has(versions: &[Version], table: TabNo, cols: &[ColNo], key: &[Value]) -> bool
+pub(crate) fn some_version_has(
+    versions: &[Version],
+    table: TabNo,
+    cols: &[ColNo],
+    key: &[Value],
+) -> bool
     ensures { result ≡ list_any (version_has table cols.now key.now) versions.now }
 {
     versions
@@ -147,11 +153,15 @@ impl World {
     }
 
     /// The next database has the writes; they are no transaction's any longer. The lines are added to the replies.
-    pub(crate) fn commit(&mut self, writes: &mut Vec<Version>, lines: List<Given>) -> Result<(), NoMemory>
+    pub(crate) fn commit(
+        &mut self,
+        writes: &mut Vec<Version>,
+        lines: List<Given>,
+    ) -> Result<(), NoMemory>
         requires { Rises 0 (keys_of (last_database self.old) (map write_entry writes.old.items)) self.old.rows }
         ensures ok { OnOk result (self.new ≡ record self.old {
-            history = self.old.history ++ overlay (length self.old.history) (map write_entry writes.old.items) (last_database self.old) ∷ [];
-            replies = self.old.replies ++ map given_shown lines;
+          history = self.old.history ++ overlay (length self.old.history) (map write_entry writes.old.items) (last_database self.old) ∷ [];
+          replies = self.old.replies ++ map given_shown lines;
         }) }
         ensures err { OnErr result ((self.new ≡ self.old) × (map write_entry writes.new.items ≡ map write_entry writes.old.items)) }
     {

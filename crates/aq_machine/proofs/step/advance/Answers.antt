@@ -2,21 +2,19 @@ use Rattle.std.proofs.Common.{◌≡◌, ◌+◌, [], ◌∷◌, map, drop, refl
 use Rattle.std.proofs.lemmas.Grind.{common_steps}
 use Rattle.std.proofs.lemmas.List.{nil_from_length}
 use Rattle.aq_base.specs.Values.{Row}
-use Rattle.aq_base.specs.declared.value.Value.{Value}
 use Rattle.aq_outcomes.specs.Rows.{insert_events}
-use Rattle.aq_run.specs.States.{World}
 use Rattle.aq_run.specs.States.Operation.{Inserting}
 use Rattle.aq_run.specs.States.Target.{New_row}
 use Rattle.aq_run.specs.States.Task.{Rows as Rows_left}
 use Rattle.aq_machine.specs.Versions.{write_entry}
 use Rattle.aq_machine.specs.Shown.{task_shown}
 use Rattle.aq_machine.specs.Runnings.{In_progress}
-use Rattle.aq_machine.specs.Advances.{Goes_further, Is_in_order}
+use Rattle.aq_machine.specs.Advances.{Goes_further}
 use Rattle.aq_machine.specs.declared.step.Change.{Change}
 use Rattle.aq_machine.specs.declared.session.Task.TheVariants.{Rounds}
 use Rattle.aq_machine.specs.declared.session.Answer.TheVariants.{Inserted}
 use Rattle.aq_machine.proofs.Finds.{first-and_rest}
-use Rattle.aq_machine.proofs.StepKinds.{parts, goes-end, goes-insert, order-insert, row_written}
+use Rattle.aq_machine.proofs.StepKinds.{parts, goes-end, goes-insert, order-insert}
 use Rattle.aq_machine.proofs.step.advance.Goals as goal
 
 pub returns-in_default-clause-ok : goal.returns-in_default-clause-ok
@@ -24,9 +22,10 @@ returns-in_default-clause-ok c =
     let writes = map write_entry c.running.inside.writes.items in
     let none : c.in-Rows.left.items ≡ [] = nil_from_length c.in-Rows.left.items (grind (arith, common_steps)) in
     let shown : task_shown c.running.inside.task ≡ Rows_left (Inserting c.in-Rows.table) [] c.in-Rows.done = rw (c.in-Rows.is, none) refl in
-    let P : In_progress → Type 0 = λ r. Goes_further c.args.catalog.now c.args.world.now r c.args.world.now (parts writes (Rounds (Inserted c.in-Rows.done)) c.running.inside.queued.items c.running.inside.round.items) in
-    (subst P c.running.view_is (goes-end c.args.catalog.now c.args.world.now writes c.running.inside.task c.in-Rows.table c.in-Rows.done c.running.inside.queued.items c.running.inside.round.items shown),
-    rw (← c.running.view_is) at c.requires)
+    let P : In_progress → Type 0 = λ r. Goes_further c.args.catalog.now c.args.world.now r c.args.world.now (parts writes (Rounds (Inserted c.in-Rows.done)) c.running.inside.queued.items c.running.inside.round.items) in (
+      subst P c.running.view_is (goes-end c.args.catalog.now c.args.world.now writes c.running.inside.task c.in-Rows.table c.in-Rows.done c.running.inside.queued.items c.running.inside.round.items shown),
+      rw (← c.running.view_is) at c.requires,
+    )
 
 pub returns-in_ok-draw_and_insert-in-Inserts-clause-ok : goal.returns-in_ok-draw_and_insert-in-Inserts-clause-ok
 returns-in_ok-draw_and_insert-in-Inserts-clause-ok c =
@@ -45,6 +44,7 @@ returns-in_ok-draw_and_insert-in-Inserts-clause-ok c =
     let write : change.write ≡ world.writes + 1 = ap (λ (ch : Change). ch.write) planned.1 in
     let own : running.task ≡ Rows_left (Inserting change.table) (New_row values ∷ later) c.in-Rows.done = rw table is in
     let left = c.in_ok-draw_and_insert-in-Inserts.ensures.row values later c.in-Rows.done own in
-    rw (c.in_ok-draw_and_insert-in-Inserts.ensures.numbers, left, table, row, write, planned.2)
-    (goes-insert c.args.catalog.now world running c.in-Rows.table c.in-Rows.done values later is planned.0 c.requires,
-    order-insert world running (world.writes + 1) c.in-Rows.table values (insert_events c.args.catalog.now c.in-Rows.table (world.rows + 1) (world.writes + 1) values) c.requires)
+    rw (c.in_ok-draw_and_insert-in-Inserts.ensures.numbers, left, table, row, write, planned.2) (
+      goes-insert c.args.catalog.now world running c.in-Rows.table c.in-Rows.done values later is planned.0 c.requires,
+      order-insert world running (world.writes + 1) c.in-Rows.table values (insert_events c.args.catalog.now c.in-Rows.table (world.rows + 1) (world.writes + 1) values) c.requires,
+    )

@@ -1,7 +1,6 @@
 use Rattle.std.proofs.Common.{◌≡◌, rules, Some, None, slice_get, subst}
-use Rattle.aq_run.specs.States.{World, Session}
+use Rattle.aq_run.specs.States.{Session}
 use Rattle.aq_machine.specs.Runnings.{Steps_to, started}
-use Rattle.aq_machine.specs.Orders.{Is_orderly}
 use Rattle.aq_machine.specs.Found.{fault_shown}
 use Rattle.aq_machine.specs.Shown.{answer_shown}
 use Rattle.aq_machine.proofs.StepKinds.{holding, step-start, step-further, step-refused, step-commits, order-refused, order-commits}
@@ -32,15 +31,15 @@ returns-clause-ok c =
     let ended = c.session.inside.ended in
     elim c.match-branch-3.branch [
       | in-Refused+in_ok-refuse-in-Refused w ↦
-        let went = rw w.in-Refused.is at c.in_ok-advance.ensures.ok in
-        let P : Session → Type 0 = λ me. Steps_to c.args.catalog.now c.args.s.0 statement c.args.world.now me w.refuse.new.world (holding next None ended) in
-        rw (w.world-is, w.session-inside-is) (subst P (rw c.in-Some.is at c.session.view_is)
-        (rw (w.in_ok-refuse-in-Refused.ensures.ok, went.0) (step-refused c.args.catalog.now c.args.s.0 statement c.args.world.now c.in-Some.running (fault_shown w.in-Refused.fault) next ended went.2)))
+          let went = rw w.in-Refused.is at c.in_ok-advance.ensures.ok in
+          let P : Session → Type 0 = λ me. Steps_to c.args.catalog.now c.args.s.0 statement c.args.world.now me w.refuse.new.world (holding next None ended) in
+          rw (w.world-is, w.session-inside-is) (subst P (rw c.in-Some.is at c.session.view_is)
+          (rw (w.in_ok-refuse-in-Refused.ensures.ok, went.0) (step-refused c.args.catalog.now c.args.s.0 statement c.args.world.now c.in-Some.running (fault_shown w.in-Refused.fault) next ended went.2)))
       | in-Commits+in_ok-commit-in-Commits w ↦
-        let went = rw w.in-Commits.is at c.in_ok-advance.ensures.ok in
-        let P : Session → Type 0 = λ me. Steps_to c.args.catalog.now c.args.s.0 statement c.args.world.now me w.commit.new.world (holding next None ended) in
-        rw (w.world-is, w.session-inside-is) (subst P (rw c.in-Some.is at c.session.view_is)
-        (rw (w.in_ok-commit-in-Commits.ensures.ok, went.0, went.1) (step-commits c.args.catalog.now c.args.s.0 statement c.args.world.now c.in-Some.running (answer_shown w.in-Commits.answer) next ended went.2)))
+          let went = rw w.in-Commits.is at c.in_ok-advance.ensures.ok in
+          let P : Session → Type 0 = λ me. Steps_to c.args.catalog.now c.args.s.0 statement c.args.world.now me w.commit.new.world (holding next None ended) in
+          rw (w.world-is, w.session-inside-is) (subst P (rw c.in-Some.is at c.session.view_is)
+          (rw (w.in_ok-commit-in-Commits.ensures.ok, went.0, went.1) (step-commits c.args.catalog.now c.args.s.0 statement c.args.world.now c.in-Some.running (answer_shown w.in-Commits.answer) next ended went.2)))
     ]
 
 pub returns-clause-orderly : goal.returns-clause-orderly
@@ -50,11 +49,11 @@ returns-clause-orderly c =
     let order = rw (← (rw c.in-Some.is at c.session.view_is)) at c.requires in
     elim c.match-branch-3.branch [
       | in-Refused+in_ok-refuse-in-Refused w ↦
-        let went = rw w.in-Refused.is at c.in_ok-advance.ensures.ok in
-        let after = rw went.0 at w.in_ok-refuse-in-Refused.ensures.ok in
-        rw w.world-is (order-refused c.args.world.now c.in-Some.running next ended w.refuse.new.world order after)
+          let went = rw w.in-Refused.is at c.in_ok-advance.ensures.ok in
+          let after = rw went.0 at w.in_ok-refuse-in-Refused.ensures.ok in
+          rw w.world-is (order-refused c.args.world.now c.in-Some.running next ended w.refuse.new.world order after)
       | in-Commits+in_ok-commit-in-Commits w ↦
-        let went = rw w.in-Commits.is at c.in_ok-advance.ensures.ok in
-        let after = rw (went.0, went.1) at w.in_ok-commit-in-Commits.ensures.ok in
-        rw w.world-is (order-commits c.args.world.now c.in-Some.running next ended w.commit.new.world order after)
+          let went = rw w.in-Commits.is at c.in_ok-advance.ensures.ok in
+          let after = rw (went.0, went.1) at w.in_ok-commit-in-Commits.ensures.ok in
+          rw w.world-is (order-commits c.args.world.now c.in-Some.running next ended w.commit.new.world order after)
     ]

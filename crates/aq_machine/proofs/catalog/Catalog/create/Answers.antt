@@ -1,4 +1,3 @@
-use Rattle.std.proofs.Common.{arith}
 use Rattle.aq_machine.proofs.Setups.{create-room, keys-fks}
 use Rattle.aq_machine.proofs.catalog.Catalog.create.Goals as goal
 

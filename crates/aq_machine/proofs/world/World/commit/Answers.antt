@@ -20,7 +20,7 @@ returns-clause-ok c =
     let all : c.append-2.new.self.items ≡ c.self.inside.versions.items ++ map (with_commit c.in_ok-commit.commit) c.args.writes.now.items = search rules in
     let rises = rw (← c.self.view_is) at c.requires in
     let history : databases c.in_ok-commit.commit c.append-2.new.self.items ≡ databases c.self.inside.commits c.self.inside.versions.items
-            ++ overlay (length (databases c.self.inside.commits c.self.inside.versions.items)) (map write_entry c.args.writes.now.items) (last_of (databases c.self.inside.commits c.self.inside.versions.items)) ∷ [] =
-        rw all (committed-history c.self.inside.commits c.in_ok-commit.commit c.self.inside.rows c.self.inside.versions.items c.args.writes.now.items next c.self.invariant rises) in
+    ++ overlay (length (databases c.self.inside.commits c.self.inside.versions.items)) (map write_entry c.args.writes.now.items) (last_of (databases c.self.inside.commits c.self.inside.versions.items)) ∷ [] =
+    rw all (committed-history c.self.inside.commits c.in_ok-commit.commit c.self.inside.rows c.self.inside.versions.items c.args.writes.now.items next c.self.invariant rises) in
     let told : map given_shown c.append.new.self ≡ map given_shown c.self.inside.replies ++ map given_shown c.args.lines = rw c.in_ok-append.ensures.ok (map-append given_shown c.self.inside.replies c.args.lines) in
     rw (← c.self.view_is, history, told) refl

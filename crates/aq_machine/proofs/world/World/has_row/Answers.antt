@@ -1,4 +1,4 @@
-use Rattle.std.proofs.Common.{sym, ◌∙◌, rules}
+use Rattle.std.proofs.Common.{rules}
 use Rattle.aq_machine.proofs.Histories.{last_database-all, list_any-stored}
 use Rattle.aq_machine.proofs.world.World.has_row.Goals as goal
 
