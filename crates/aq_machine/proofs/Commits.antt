@@ -5,16 +5,16 @@ use Rattle.aq_base.specs.Databases.{Database, Stored}
 use Rattle.aq_base.specs.Writes.{Writes, overlay, stored_by}
 use Rattle.aq_run.specs.States.{last_of}
 use Rattle.aq_machine.specs.declared.world.Version.{Version}
-use Rattle.aq_machine.specs.Versions.{stored_entry, write_entry, with_commit, databases, Are_committed}
+use Rattle.aq_machine.specs.Versions.{stored_entry, write_entry, with_commit, databases, AreCommitted}
 use Rattle.aq_machine.specs.Orders.{Rises, keys_of}
-use Rattle.aq_machine.proofs.Histories.{last_database-all, length-databases, databases-commit, Are_committed-commit, last_of-push}
+use Rattle.aq_machine.proofs.Histories.{last_database-all, length-databases, databases-commit, AreCommitted-commit, last_of-push}
 use Rattle.aq_machine.proofs.Overlays.{overlay-rises}
 
 stored-written : (commit : ℕ) (own : List Version) → map stored_entry (map (with_commit commit) own) ≡ map (λ entry. (entry.0, stored_by commit entry.1)) (map write_entry own)
 stored-written commit [] = refl
 stored-written commit (v ∷ own) = ap (λ es. stored_entry (with_commit commit v) ∷ es) (stored-written commit own)
 
-history-commit : (n rows : ℕ) (versions own : List Version) → Are_committed n versions → Rises 0 (keys_of (last_of (databases n versions)) (map write_entry own)) rows
+history-commit : (n rows : ℕ) (versions own : List Version) → AreCommitted n versions → Rises 0 (keys_of (last_of (databases n versions)) (map write_entry own)) rows
     → databases (n + 1) (versions ++ map (with_commit (n + 1)) own) ≡ databases n versions ++ overlay (length (databases n versions)) (map write_entry own) (last_of (databases n versions)) ∷ []
 history-commit n rows versions own all rises =
     let e = databases-commit n versions own all in
@@ -25,13 +25,13 @@ history-commit n rows versions own all rises =
     e ∙ ap (λ db. databases n versions ++ db ∷ []) (joined ∙ sym seen)
 
 -- what the history is after a commit
-pub committed-history : (n commit rows : ℕ) (versions own : List Version) → commit ≡ n + 1 → Are_committed n versions
+pub committed-history : (n commit rows : ℕ) (versions own : List Version) → commit ≡ n + 1 → AreCommitted n versions
     → Rises 0 (keys_of (last_of (databases n versions)) (map write_entry own)) rows
     → databases commit (versions ++ map (with_commit commit) own) ≡ databases n versions ++ overlay (length (databases n versions)) (map write_entry own) (last_of (databases n versions)) ∷ []
 committed-history n commit rows versions own next all rises = rw next (history-commit n rows versions own all rises)
 
-pub committed-all : (n commit : ℕ) (versions own : List Version) → commit ≡ n + 1 → Are_committed n versions → Are_committed commit (versions ++ map (with_commit commit) own)
-committed-all n commit versions own next all = rw next (Are_committed-commit n versions own all)
+pub committed-all : (n commit : ℕ) (versions own : List Version) → commit ≡ n + 1 → AreCommitted n versions → AreCommitted commit (versions ++ map (with_commit commit) own)
+committed-all n commit versions own next all = rw next (AreCommitted-commit n versions own all)
 
 keys-written : (commit : ℕ) (writes : Writes) → map {A = ℕ × Stored} (λ entry. entry.0) (map (λ entry. (entry.0, stored_by commit entry.1)) writes) ≡ map (λ entry. entry.0) writes
 keys-written commit [] = refl

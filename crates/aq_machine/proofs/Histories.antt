@@ -7,7 +7,7 @@ use Rattle.aq_base.specs.Values.{Row}
 use Rattle.aq_base.specs.Databases.{Database, has_key}
 use Rattle.aq_run.specs.States.{last_of}
 use Rattle.aq_machine.specs.declared.world.Version.{Version}
-use Rattle.aq_machine.specs.Versions.{stored_entry, with_commit, version_has, database_at, databases, Are_committed}
+use Rattle.aq_machine.specs.Versions.{stored_entry, with_commit, version_has, database_at, databases, AreCommitted}
 
 pub last_of-push : (xs : List Database) (y : Database) → last_of (xs ++ y ∷ []) ≡ y
 last_of-push [] y = refl
@@ -19,12 +19,12 @@ unfolding databases
 last_of-databases zero versions = refl
 last_of-databases (suc n) versions = last_of-push (databases n versions) _
 
-all_within : (n : ℕ) (versions : List Version) → Are_committed n versions → filter (λ v. nat_le v.commit n) versions ≡ versions
+all_within : (n : ℕ) (versions : List Version) → AreCommitted n versions → filter (λ v. nat_le v.commit n) versions ≡ versions
 all_within n [] all = refl
 all_within n (v ∷ versions) all = rw (le-leb v.commit n all.0) (ap (λ vs. v ∷ vs) (all_within n versions all.1))
 
 -- the last database has all committed versions
-pub last_database-all : (n : ℕ) (versions : List Version) → Are_committed n versions → last_of (databases n versions) ≡ map stored_entry versions
+pub last_database-all : (n : ℕ) (versions : List Version) → AreCommitted n versions → last_of (databases n versions) ≡ map stored_entry versions
 last_database-all n versions all = last_of-databases n versions ∙ ap (map stored_entry) (all_within n versions all)
 
 pub length-databases : (n : ℕ) (versions : List Version) → length (databases n versions) ≡ n + 1
@@ -48,12 +48,12 @@ databases-later (suc m) n versions more below =
     let now : filter (λ v. nat_le v.commit (suc m)) (versions ++ map (with_commit n) more) ≡ filter (λ v. nat_le v.commit (suc m)) versions = filter-later (suc m) n versions more below in
     rw (earlier, now) refl
 
-committed-more : (n : ℕ) (versions more : List Version) → Are_committed n versions → Are_committed (suc n) (versions ++ map (with_commit (suc n)) more)
+committed-more : (n : ℕ) (versions more : List Version) → AreCommitted n versions → AreCommitted (suc n) (versions ++ map (with_commit (suc n)) more)
 committed-more n [] [] all = tt
 committed-more n [] (v ∷ more) all = (omega arith, committed-more n [] more all)
 committed-more n (v ∷ versions) more all = (omega (arith, all.0), committed-more n versions more all.1)
 
-databases-next : (n : ℕ) (versions more : List Version) → Are_committed n versions
+databases-next : (n : ℕ) (versions more : List Version) → AreCommitted n versions
     → databases (suc n) (versions ++ map (with_commit (suc n)) more) ≡ databases n versions ++ map stored_entry (versions ++ map (with_commit (suc n)) more) ∷ []
 unfolding databases
 databases-next n versions more all =
@@ -62,12 +62,12 @@ databases-next n versions more all =
     rw (earlier, now) refl
 
 -- a commit appends to the history the versions that there are, and its own
-pub databases-commit : (n : ℕ) (versions more : List Version) → Are_committed n versions
+pub databases-commit : (n : ℕ) (versions more : List Version) → AreCommitted n versions
     → databases (n + 1) (versions ++ map (with_commit (n + 1)) more) ≡ databases n versions ++ map stored_entry (versions ++ map (with_commit (n + 1)) more) ∷ []
 databases-commit n versions more all = rw add-one (databases-next n versions more all)
 
-pub Are_committed-commit : (n : ℕ) (versions more : List Version) → Are_committed n versions → Are_committed (n + 1) (versions ++ map (with_commit (n + 1)) more)
-Are_committed-commit n versions more all = rw add-one (committed-more n versions more all)
+pub AreCommitted-commit : (n : ℕ) (versions more : List Version) → AreCommitted n versions → AreCommitted (n + 1) (versions ++ map (with_commit (n + 1)) more)
+AreCommitted-commit n versions more all = rw add-one (committed-more n versions more all)
 
 -- a test of committed rows, made on their versions
 pub list_any-stored : (table : ℕ) (cols : List ℕ) (key : Row) (versions : List Version) → list_any (λ entry. has_key table cols key entry.1) (map stored_entry versions) ≡ list_any (version_has table cols key) versions

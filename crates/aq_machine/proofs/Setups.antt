@@ -21,12 +21,12 @@ adds_keys-fks number table col [] cat = refl
 adds_keys-fks number table col (item ∷ items) cat = adds_keys-fks number table (col + 1) items (adds_key number table col item.constraint cat) ∙ adds_key-fks number table col item.constraint cat
 
 -- what a table that can be created leaves room for
-pub record Has_room (cat : Catalog) (items : List ColumnItem) : Type 0 where
+pub record HasRoom (cat : Catalog) (items : List ColumnItem) : Type 0 where
   pub tables : length cat.tables < 64
   pub cols : length items ≤ 32
   pub fks : length cat.fks ≤ 128
 
-pub create-room : (cat : Catalog) (table : Text) (items : List ColumnItem) → can_create cat table items ≡ true → Has_room cat items
+pub create-room : (cat : Catalog) (table : Text) (items : List ColumnItem) → can_create cat table items ≡ true → HasRoom cat items
 create-room cat table items can =
     let all = and_parts _ _ can in
     let four = and_parts _ _ (and_parts _ _ (and_parts _ _ (and_parts _ _ all.0).0).0).0 in

@@ -19,10 +19,10 @@ use Rattle.aq_run.specs.Replies.{answer_lines, error_lines}
 use Rattle.aq_run.specs.Effects.Effect.{Finishes}
 use Rattle.aq_run.specs.Steps.{event_plan, task_plan}
 use Rattle.aq_run.specs.Steps.Plan.{Does_all, Fails}
-use Rattle.aq_machine.specs.Runnings.{In_progress, running_plan, started, Steps_to}
+use Rattle.aq_machine.specs.Runnings.{InProgress, running_plan, started, StepsTo}
 use Rattle.aq_machine.specs.Shown.{task_shown, opened_at, answer_shown}
-use Rattle.aq_machine.specs.Advances.{Goes_further, HasNoRound, Is_in_order}
-use Rattle.aq_machine.specs.Orders.{Rises, keys_of, Is_orderly}
+use Rattle.aq_machine.specs.Advances.{GoesFurther, HasNoRound, IsInOrder}
+use Rattle.aq_machine.specs.Orders.{Rises, keys_of, IsOrderly}
 use Rattle.aq_machine.proofs.Overlays.{with_at-last, Rises-push, Rises-front}
 use Rattle.aq_machine.proofs.Commits.{Rises-commit}
 use Rattle.aq_machine.specs.declared.session.Answer.{Answer as Own_answer}
@@ -30,12 +30,12 @@ use Rattle.aq_machine.specs.declared.session.Answer.TheVariants.{Inserted as Ins
 use Rattle.aq_machine.specs.declared.session.Task.{Task}
 use Rattle.aq_machine.specs.declared.session.Task.TheVariants.{Rows, Rounds, Committing}
 
-abbrev pub parts : Writes → Task → List Event → List Event → In_progress
+abbrev pub parts : Writes → Task → List Event → List Event → InProgress
 parts writes task queued round = record { transaction = record { work = record { writes = writes; opened = opened_at task queued round } }; task = task_shown task }
 
 pub goes-finish : (cat : Catalog) (world : World) (writes : Writes) (task : Task) (answer : Answer) (queued : List Event) (event : Event) (round : List Event)
     → task_shown task ≡ Rounds_left answer → event_plan cat world (parts writes task queued (event ∷ round)).transaction.work event ≡ Does_all (Finishes ∷ [])
-    → Goes_further cat world (parts writes task queued (event ∷ round)) world (parts writes task queued round)
+    → GoesFurther cat world (parts writes task queued (event ∷ round)) world (parts writes task queued round)
 unfolding effect
 goes-finish cat world writes (Rows table left done) answer queued event round is plan = cc
 goes-finish cat world writes (Rounds a) answer queued event round is plan = λ s me. rw plan refl
@@ -47,7 +47,7 @@ round-none writes (Rounds a) answer queued round is none = none.0
 round-none writes (Committing a) answer queued round is none = cc
 
 pub goes-round : (cat : Catalog) (world : World) (writes : Writes) (task : Task) (answer : Answer) (queued round : List Event)
-    → task_shown task ≡ Rounds_left answer → round ≡ [] → (queued ≡ [] → ⊥) → Goes_further cat world (parts writes task queued round) world (parts writes task round queued)
+    → task_shown task ≡ Rounds_left answer → round ≡ [] → (queued ≡ [] → ⊥) → GoesFurther cat world (parts writes task queued round) world (parts writes task round queued)
 unfolding effect
 goes-round cat world writes (Rows table left done) answer queued round is none some = cc
 goes-round cat world writes (Rounds a) answer [] round is none some = absurd (some refl)
@@ -55,14 +55,14 @@ goes-round cat world writes (Rounds a) answer (event ∷ queued) round is none s
 goes-round cat world writes (Committing a) answer queued round is none some = cc
 
 pub goes-close : (cat : Catalog) (world : World) (writes : Writes) (task : Task) (answer : Own_answer) (queued round : List Event)
-    → task_shown task ≡ Rounds_left (answer_shown answer) → round ≡ [] → queued ≡ [] → Goes_further cat world (parts writes task queued round) world (parts writes (Committing answer) queued round)
+    → task_shown task ≡ Rounds_left (answer_shown answer) → round ≡ [] → queued ≡ [] → GoesFurther cat world (parts writes task queued round) world (parts writes (Committing answer) queued round)
 unfolding effect
 goes-close cat world writes (Rows table left done) answer queued round is none empty = cc
 goes-close cat world writes (Rounds a) answer queued round is none empty = let same : answer_shown answer ≡ answer_shown a = cc in rw (none, empty, same) (λ s me. refl)
 goes-close cat world writes (Committing a) answer queued round is none empty = cc
 
 pub goes-end : (cat : Catalog) (world : World) (writes : Writes) (task : Task) (table done : ℕ) (queued round : List Event)
-    → task_shown task ≡ Rows_left (Inserting table) [] done → Goes_further cat world (parts writes task queued round) world (parts writes (Rounds (Inserted_rows done)) queued round)
+    → task_shown task ≡ Rows_left (Inserting table) [] done → GoesFurther cat world (parts writes task queued round) world (parts writes (Rounds (Inserted_rows done)) queued round)
 unfolding effect
 goes-end cat world writes (Rows t left d) table done queued round is =
     let none : map New_row left.items ≡ [] = cc in
@@ -71,13 +71,13 @@ goes-end cat world writes (Rows t left d) table done queued round is =
 goes-end cat world writes (Rounds a) table done queued round is = cc
 goes-end cat world writes (Committing a) table done queued round is = cc
 
-pub plan-refused : (cat : Catalog) (world : World) (running : In_progress) (table done : ℕ) (values : Row) (later : List Target) (fault : Fault)
+pub plan-refused : (cat : Catalog) (world : World) (running : InProgress) (table done : ℕ) (values : Row) (later : List Target) (fault : Fault)
     → running.task ≡ Rows_left (Inserting table) (New_row values ∷ later) done → insert_fault cat (latest_view world running.transaction.work) table values ≡ Some fault
     → (me : Session) → running_plan cat world running me ≡ Fails fault
 plan-refused cat world running table done values later fault is found me = rw (is, found) refl
 
 -- the row that an INSERT writes next
-abbrev pub row_written : ℕ → ℕ → ℕ → Row → List Event → In_progress → In_progress
+abbrev pub row_written : ℕ → ℕ → ℕ → Row → List Event → InProgress → InProgress
 row_written row write table values events running = record running {
   transaction = record {
     work = record {
@@ -87,9 +87,9 @@ row_written row write table values events running = record running {
   };
 }
 
-pub goes-insert : (cat : Catalog) (world : World) (running : In_progress) (table done : ℕ) (values : Row) (later : List Target)
-    → running.task ≡ Rows_left (Inserting table) (New_row values ∷ later) done → insert_fault cat (latest_view world running.transaction.work) table values ≡ None → Is_in_order world running
-    → Goes_further cat world running (record world { rows = world.rows + 1; writes = world.writes + 1 })
+pub goes-insert : (cat : Catalog) (world : World) (running : InProgress) (table done : ℕ) (values : Row) (later : List Target)
+    → running.task ≡ Rows_left (Inserting table) (New_row values ∷ later) done → insert_fault cat (latest_view world running.transaction.work) table values ≡ None → IsInOrder world running
+    → GoesFurther cat world running (record world { rows = world.rows + 1; writes = world.writes + 1 })
     (record (row_written (world.rows + 1) (world.writes + 1) table values (insert_events cat table (world.rows + 1) (world.writes + 1) values) running) { task = Rows_left (Inserting table) later (done + 1) })
 unfolding effect
 goes-insert cat world running table done values later is none order =
@@ -98,14 +98,14 @@ goes-insert cat world running table done values later is none order =
     with_at-last (map (λ entry. entry.0) (last_database world)) running.transaction.work.writes world.rows (world.rows + 1) (record { table = table; image = values; number = world.writes + 1 }) order (omega arith) in
     λ s me. rw (is, none, last) refl
 
-pub order-insert : (world : World) (running : In_progress) (write table : ℕ) (values : Row) (events : List Event) → Is_in_order world running
+pub order-insert : (world : World) (running : InProgress) (write table : ℕ) (values : Row) (events : List Event) → IsInOrder world running
     → Rises 0 (keys_of (last_database world) (row_written (world.rows + 1) write table values events running).transaction.work.writes) (world.rows + 1)
 order-insert world running write table values events order =
     let keys : keys_of (last_database world) (row_written (world.rows + 1) write table values events running).transaction.work.writes ≡ keys_of (last_database world) running.transaction.work.writes ++ (world.rows + 1) ∷ [] = simp (map-append, append_assoc) in
     rw keys (Rises-push 0 (keys_of (last_database world) running.transaction.work.writes) world.rows (world.rows + 1) order (omega arith))
 
 -- a session, by what it has in progress
-abbrev pub holding : ℕ → Option In_progress → Bool → Session
+abbrev pub holding : ℕ → Option InProgress → Bool → Session
 holding next running ended =
     record { next = next; transaction = option_map (λ r. r.transaction) running; tasks = map (λ r. r.task) (option_to_list running); ended = ended }
 
@@ -117,38 +117,38 @@ plan-any cat world me statement (Rounds_left answer) = refl
 plan-any cat world me statement (Commit_left answer) = refl
 
 pub step-start : (cat : Catalog) (s : ℕ) (statement : Option Bound) (world : World) (next : ℕ) (ended : Bool)
-    → Steps_to cat s statement world (holding next None ended) world (started statement (holding next None ended))
+    → StepsTo cat s statement world (holding next None ended) world (started statement (holding next None ended))
 unfolding effect
 step-start cat s None world next ended = refl
 step-start cat s (Some statement) world next ended = refl
 
-pub step-further : (cat : Catalog) (s : ℕ) (statement : Option Bound) (world : World) (running : In_progress) (after : World) (left : In_progress) (next : ℕ) (ended : Bool)
-    → Goes_further cat world running after left → Steps_to cat s statement world (holding next (Some running) ended) after (holding next (Some left) ended)
+pub step-further : (cat : Catalog) (s : ℕ) (statement : Option Bound) (world : World) (running : InProgress) (after : World) (left : InProgress) (next : ℕ) (ended : Bool)
+    → GoesFurther cat world running after left → StepsTo cat s statement world (holding next (Some running) ended) after (holding next (Some left) ended)
 step-further cat s statement world running after left next ended goes =
     rw (plan-any cat world (holding next (Some running) ended) statement running.task) (goes s (holding next None ended))
 
-pub step-refused : (cat : Catalog) (s : ℕ) (statement : Option Bound) (world : World) (running : In_progress) (fault : Fault) (next : ℕ) (ended : Bool)
+pub step-refused : (cat : Catalog) (s : ℕ) (statement : Option Bound) (world : World) (running : InProgress) (fault : Fault) (next : ℕ) (ended : Bool)
     → ((me : Session) → running_plan cat world running me ≡ Fails fault)
-    → Steps_to cat s statement world (holding next (Some running) ended) (record world { replies = world.replies ++ given s next (error_lines cat fault) }) (holding next None ended)
+    → StepsTo cat s statement world (holding next (Some running) ended) (record world { replies = world.replies ++ given s next (error_lines cat fault) }) (holding next None ended)
 unfolding effect
 step-refused cat s statement world running fault next ended plan =
     rw (plan-any cat world (holding next (Some running) ended) statement running.task, plan (holding next None ended)) refl
 
-pub step-commits : (cat : Catalog) (s : ℕ) (statement : Option Bound) (world : World) (running : In_progress) (answer : Answer) (next : ℕ) (ended : Bool)
+pub step-commits : (cat : Catalog) (s : ℕ) (statement : Option Bound) (world : World) (running : InProgress) (answer : Answer) (next : ℕ) (ended : Bool)
     → running.task ≡ Commit_left answer
-    → Steps_to cat s statement world (holding next (Some running) ended)
+    → StepsTo cat s statement world (holding next (Some running) ended)
     (record world { history = world.history ++ latest_view world running.transaction.work ∷ []; replies = world.replies ++ given s next (answer_lines answer) }) (holding next None ended)
 unfolding effect
 step-commits cat s statement world running answer next ended is = rw is refl
 
 -- ---- the row numbers after a step
 
-pub order-refused : (world : World) (running : In_progress) {replies : List Given} (next : ℕ) (ended : Bool) (after : World) → Is_in_order world running
-    → after ≡ record world { replies = replies } → Is_orderly after (holding next None ended)
+pub order-refused : (world : World) (running : InProgress) {replies : List Given} (next : ℕ) (ended : Bool) (after : World) → IsInOrder world running
+    → after ≡ record world { replies = replies } → IsOrderly after (holding next None ended)
 order-refused world running next ended after order is =
     rw (is, append-nil) (Rises-front 0 (map (λ entry. entry.0) (last_database world)) (map (λ entry. entry.0) running.transaction.work.writes) world.rows order)
 
-pub order-commits : (world : World) (running : In_progress) {replies : List Given} (next : ℕ) (ended : Bool) (after : World) → Is_in_order world running
-    → after ≡ record world { history = world.history ++ latest_view world running.transaction.work ∷ []; replies = replies } → Is_orderly after (holding next None ended)
+pub order-commits : (world : World) (running : InProgress) {replies : List Given} (next : ℕ) (ended : Bool) (after : World) → IsInOrder world running
+    → after ≡ record world { history = world.history ++ latest_view world running.transaction.work ∷ []; replies = replies } → IsOrderly after (holding next None ended)
 order-commits world running next ended after order is =
     rw is (Rises-commit (length world.history) world.rows world.history (last_database world) running.transaction.work.writes order)

@@ -12,7 +12,7 @@ use Rattle.aq_run.specs.Steps.Plan.{Fails}
 use Rattle.aq_machine.specs.Orders.{Rises, keys_of}
 use Rattle.aq_machine.specs.Shown.{answer_shown}
 use Rattle.aq_machine.specs.Found.{fault_shown}
-use Rattle.aq_machine.specs.Runnings.{In_progress, with_running, scene, carried_out, running_plan}
+use Rattle.aq_machine.specs.Runnings.{InProgress, with_running, scene, carried_out, running_plan}
 use Rattle.aq_outcomes.specs.Rows.{insert_fault, insert_events}
 use Rattle.aq_machine.specs.declared.step.Planned.{Planned}
 use Rattle.aq_machine.specs.declared.step.Planned.TheVariants.{Inserts, Refused as Refuses}
@@ -21,23 +21,23 @@ use Rattle.aq_machine.specs.declared.step.Advanced.{Advanced}
 use Rattle.aq_machine.specs.declared.step.Advanced.TheVariants.{Further, Refused, Commits}
 
 -- the row numbers that the statement sees rise, up to the last number that was drawn
-abbrev pub Is_in_order : World → In_progress → Type 0
-Is_in_order world running = Rises 0 (keys_of (last_database world) running.transaction.work.writes) world.rows
+abbrev pub IsInOrder : World → InProgress → Type 0
+IsInOrder world running = Rises 0 (keys_of (last_database world) running.transaction.work.writes) world.rows
 
 -- in any session, what the statement plans was carried out, and the statement is still in progress
-abbrev pub Goes_further : Catalog → World → In_progress → World → In_progress → Type 0
-Goes_further cat world running after left =
+abbrev pub GoesFurther : Catalog → World → InProgress → World → InProgress → Type 0
+GoesFurther cat world running after left =
     (s : ℕ) (me : Session) → scene after (with_running left me) ≡ carried_out cat s (running_plan cat world running me) (scene world (with_running running me))
 
-abbrev pub Advances : Catalog → World → In_progress → World → In_progress → Advanced → Type 0
-Advances cat world running after left Further = Goes_further cat world running after left × Is_in_order after left
+abbrev pub Advances : Catalog → World → InProgress → World → InProgress → Advanced → Type 0
+Advances cat world running after left Further = GoesFurther cat world running after left × IsInOrder after left
 Advances cat world running after left (Refused fault) =
     (after ≡ world) × (left ≡ running) × ((me : Session) → running_plan cat world running me ≡ Fails (fault_shown fault))
 Advances cat world running after left (Commits answer) = (after ≡ world) × (left ≡ running) × (running.task ≡ Committing (answer_shown answer))
 
 -- the statement has its next row among its writes, and the row's events in its level's list
-abbrev pub Inserts_row : Change → In_progress → In_progress → Type 0
-Inserts_row change running left =
+abbrev pub InsertsRow : Change → InProgress → InProgress → Type 0
+InsertsRow change running left =
     (values : Row) (later : List Target) (done : ℕ) → running.task ≡ Rows (Inserting change.table) (New_row values ∷ later) done
     → left ≡ record {
       transaction = record {
@@ -50,13 +50,13 @@ Inserts_row change running left =
     }
 
 -- no event is left of the round in progress
-abbrev pub HasNoRound : In_progress → Type 0
+abbrev pub HasNoRound : InProgress → Type 0
 HasNoRound running = AllByRecursion (λ level. level.round ≡ []) running.transaction.work.opened
 
 -- a new row is refused, or it may be inserted with the next numbers and the events that it queues
-abbrev pub Plans_row : Catalog → World → In_progress → ℕ → Row → Planned → Type 0
-Plans_row cat world running table values (Refuses fault) = insert_fault cat (latest_view world running.transaction.work) table values ≡ Some (fault_shown fault)
-Plans_row cat world running table values (Inserts change) =
+abbrev pub PlansRow : Catalog → World → InProgress → ℕ → Row → Planned → Type 0
+PlansRow cat world running table values (Refuses fault) = insert_fault cat (latest_view world running.transaction.work) table values ≡ Some (fault_shown fault)
+PlansRow cat world running table values (Inserts change) =
     (insert_fault cat (latest_view world running.transaction.work) table values ≡ None)
     × (change ≡ record change { table = table; row = world.rows + 1; write = world.writes + 1 })
     × (change.events.items ≡ insert_events cat table (world.rows + 1) (world.writes + 1) values)

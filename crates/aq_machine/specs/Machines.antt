@@ -6,18 +6,18 @@ use Rattle.aq_base.specs.Setup.{catalog_of, program_of}
 use Rattle.aq_base.specs.declared.script.Script.{Script}
 use Rattle.aq_base.specs.declared.script.Bound.{Bound}
 use Rattle.aq_run.specs.States.{World, Session, at_start}
-use Rattle.aq_machine.specs.Orders.{Is_orderly}
+use Rattle.aq_machine.specs.Orders.{IsOrderly}
 
-abbrev pub Is_orderly_in : World → Option Session → Type 0
-Is_orderly_in world None = Unit {0}
-Is_orderly_in world (Some session) = Is_orderly world session
+abbrev pub IsOrderlyIn : World → Option Session → Type 0
+IsOrderlyIn world None = Unit {0}
+IsOrderlyIn world (Some session) = IsOrderly world session
 
-pub record Is_machine (script : Script) (catalog : Catalog) (statements : List Bound) (world : World) (session : Option Session) : Type 0 where
+pub record IsMachine (script : Script) (catalog : Catalog) (statements : List Bound) (world : World) (session : Option Session) : Type 0 where
   pub catalog_is : catalog ≡ catalog_of script
   pub statements_are : (program_of script).sessions ≡ map (λ _. statements) (option_to_list session)
-  pub orderly : Is_orderly_in world session
+  pub orderly : IsOrderlyIn world session
 
 -- the statements and the session that a script's sessions make
-pub record Opens_sessions (sessions : List (List Bound)) (statements : List Bound) (session : Option Session) : Type 0 where
+pub record OpensSessions (sessions : List (List Bound)) (statements : List Bound) (session : Option Session) : Type 0 where
   pub statements_are : sessions ≡ map (λ _. statements) (option_to_list session)
   pub at_start_all : map (λ _. at_start) sessions ≡ option_to_list session

@@ -18,5 +18,5 @@ abbrev pub keys_of : Database → Writes → List ℕ
 keys_of db writes = map (λ entry. entry.0) db ++ map (λ entry. entry.0) writes
 
 -- the numbers of the rows that a session sees rise, up to the last number that was drawn
-abbrev pub Is_orderly : World → Session → Type 0
-Is_orderly world me = Rises 0 (keys_of (last_database world) (writes_of me.transaction)) world.rows
+abbrev pub IsOrderly : World → Session → Type 0
+IsOrderly world me = Rises 0 (keys_of (last_database world) (writes_of me.transaction)) world.rows

@@ -8,11 +8,11 @@ use Rattle.aq_run.specs.Effects.{Scene, effects}
 use Rattle.aq_run.specs.Steps.{Plan, task_plan, effects_of_plan, operation_of, targets_of}
 
 -- a task, and the transaction over which it stands
-pub record In_progress : Type 0 where
+pub record InProgress : Type 0 where
   pub transaction : Transaction
   pub task : Task
 
-abbrev pub with_running : In_progress → Session → Session
+abbrev pub with_running : InProgress → Session → Session
 with_running running me = record me { transaction = Some running.transaction; tasks = running.task ∷ [] }
 
 abbrev pub scene : World → Session → Scene
@@ -23,7 +23,7 @@ abbrev pub carried_out : Catalog → ℕ → Plan → Scene → Scene
 carried_out cat s plan before = effects cat s (effects_of_plan cat plan) before
 
 -- what a session plans that has the statement in progress
-abbrev pub running_plan : Catalog → World → In_progress → Session → Plan
+abbrev pub running_plan : Catalog → World → InProgress → Session → Plan
 running_plan cat world running me = task_plan cat world (with_running running me) None (running.task ∷ [])
 
 -- a session that has taken its next statement, or has ended for want of one
@@ -37,5 +37,5 @@ started (Some statement) me =
     }
 
 -- one step of a session whose next statement is given
-abbrev pub Steps_to : Catalog → ℕ → Option Bound → World → Session → World → Session → Type 0
-Steps_to cat s statement world me after left = scene after left ≡ carried_out cat s (task_plan cat world me statement me.tasks) (scene world me)
+abbrev pub StepsTo : Catalog → ℕ → Option Bound → World → Session → World → Session → Type 0
+StepsTo cat s statement world me after left = scene after left ≡ carried_out cat s (task_plan cat world me statement me.tasks) (scene world me)

@@ -34,5 +34,5 @@ databases zero versions = database_at 0 versions ∷ []
 databases (suc commit) versions = databases commit versions ++ database_at (suc commit) versions ∷ []
 
 -- every version was committed by then
-abbrev pub Are_committed : ℕ → List Version → Type 0
-Are_committed commit versions = AllByRecursion (λ v. v.commit ≤ commit) versions
+abbrev pub AreCommitted : ℕ → List Version → Type 0
+AreCommitted commit versions = AllByRecursion (λ v. v.commit ≤ commit) versions

@@ -5,7 +5,7 @@ ghost use Rattle.aq_run.specs.States.{opening, session_at, last_database};
 ghost use Rattle.aq_run.specs.Steps.{step, is_enabled};
 ghost use Rattle.aq_run.specs.Texts.{table_rows};
 ghost use Rattle.aq_machine.specs.Givens.{given_shown};
-ghost use Rattle.aq_machine.specs.Machines.{Opens_sessions};
+ghost use Rattle.aq_machine.specs.Machines.{OpensSessions};
 
 use crate::catalog::{Catalog, catalog_for, statements_for};
 use crate::numbers::SessNo;
@@ -32,13 +32,13 @@ pub struct Machine {
 impl Model for Machine {
     ghost use Rattle.std.specs.Option.{option_to_list};
     ghost use Rattle.aq_run.specs.States.{Standing};
-    ghost use Rattle.aq_machine.specs.Machines.{Is_machine};
+    ghost use Rattle.aq_machine.specs.Machines.{IsMachine};
 
     ghost Value = { Standing };
 
     ghost view = { λ m. record { script = m.script; state = record { world = m.world; sessions = option_to_list m.session } } };
 
-    ghost invariant = { λ m. Is_machine m.script m.catalog m.statements m.world m.session };
+    ghost invariant = { λ m. IsMachine m.script m.catalog m.statements m.world m.session };
 }
 
 /// The statements of the one session, and the session before them.
@@ -48,7 +48,7 @@ fn opened(
     sessions: &[SessionText],
 ) -> Result<(List<Bound>, Option<Session>), NoMemory>
     requires { length sessions.now ≤ 1 }
-    ensures { IfOk result (λ made. Opens_sessions (map (bound_statements catalog.now) sessions.now) made.0 made.1) }
+    ensures { IfOk result (λ made. OpensSessions (map (bound_statements catalog.now) sessions.now) made.0 made.1) }
 {
     match sessions.split_first() {
         None => Ok((List::new(alloc), None)),

@@ -69,11 +69,11 @@ pub(crate) struct Running {
 
 impl Model for Running {
     ghost use Rattle.std.specs.Prelude.{map};
-    ghost use Rattle.aq_machine.specs.Runnings.{In_progress};
+    ghost use Rattle.aq_machine.specs.Runnings.{InProgress};
     ghost use Rattle.aq_machine.specs.Versions.{write_entry};
     ghost use Rattle.aq_machine.specs.Shown.{task_shown, opened_at};
 
-    ghost Value = { In_progress };
+    ghost Value = { InProgress };
 
     ghost view = { λ r. record {
       transaction = record { work = record { writes = map write_entry r.writes.items; opened = opened_at r.task r.queued.items r.round.items } };

@@ -10,10 +10,10 @@ ghost use Rattle.aq_run.specs.Effects.{given};
 ghost use Rattle.aq_run.specs.Replies.{answer_lines, error_lines};
 ghost use Rattle.aq_machine.specs.Found.{fault_shown};
 ghost use Rattle.aq_run.specs.Steps.{task_plan};
-ghost use Rattle.aq_machine.specs.Orders.{Rises, keys_of, Is_orderly};
+ghost use Rattle.aq_machine.specs.Orders.{Rises, keys_of, IsOrderly};
 ghost use Rattle.aq_machine.specs.Shown.{answer_shown};
-ghost use Rattle.aq_machine.specs.Runnings.{scene, carried_out, running_plan, with_running, started, Steps_to};
-ghost use Rattle.aq_machine.specs.Advances.{Advances, Is_in_order, Inserts_row, Goes_further, HasNoRound, Plans_row};
+ghost use Rattle.aq_machine.specs.Runnings.{scene, carried_out, running_plan, with_running, started, StepsTo};
+ghost use Rattle.aq_machine.specs.Advances.{Advances, IsInOrder, InsertsRow, GoesFurther, HasNoRound, PlansRow};
 ghost use Rattle.aq_base.specs.Catalogs.{Catalog as Catalog_value};
 ghost use Rattle.aq_run.specs.States.{World as World_value};
 
@@ -112,7 +112,7 @@ fn new_row(
 
 /// Inserts the next row of an INSERT.
 fn insert(change: Change, running: &mut Running) -> Result<(), NoMemory>
-    ensures ok { OnOk result (Inserts_row change running.old running.new) }
+    ensures ok { OnOk result (InsertsRow change running.old running.new) }
     ensures err { OnErr result (running.new ≡ running.old) }
 {
     let Change {
@@ -144,7 +144,7 @@ fn insert(change: Change, running: &mut Running) -> Result<(), NoMemory>
 fn next_round(running: &mut Running, answer: Answer)
     requires rounds { running.old.task ≡ Rounds_left (answer_shown answer) }
     requires none_left { HasNoRound running.old }
-    ensures further { (cat : Catalog_value) (world : World_value) → Goes_further cat world running.old world running.new }
+    ensures further { (cat : Catalog_value) (world : World_value) → GoesFurther cat world running.old world running.new }
     ensures writes { running.new.transaction.work.writes ≡ running.old.transaction.work.writes }
 {
     if running.queued.is_empty() {
@@ -162,7 +162,7 @@ fn rounds_step<'a>(
     running: &mut Running,
     answer: Answer,
 ) -> Result<Advanced<'a>, NoMemory>
-    requires order { Is_in_order world.now running.old }
+    requires order { IsInOrder world.now running.old }
     requires rounds { running.old.task ≡ Rounds_left (answer_shown answer) }
     ensures ok { IfOk result (Advances catalog.now world.now running.old world.now running.new) }
     ensures err { OnErr result (running.new ≡ running.old) }
@@ -194,8 +194,8 @@ fn plan_row<'a>(
     table: TabNo,
     values: &Row,
 ) -> Result<Planned<'a>, NoMemory>
-    requires { Is_in_order world.now running.now }
-    ensures { IfOk result (Plans_row catalog.now world.now running.now table values.now) }
+    requires { IsInOrder world.now running.now }
+    ensures { IfOk result (PlansRow catalog.now world.now running.now table values.now) }
 {
     match insert_fault_of(catalog, world, running, table, values)? {
         Some(fault) => Ok(Planned::Refused(fault)),
@@ -205,7 +205,7 @@ fn plan_row<'a>(
 
 /// Inserts the next row of an INSERT, whose numbers are drawn then.
 fn draw_and_insert(change: Change, world: &mut World, running: &mut Running) -> Result<(), NoMemory>
-    ensures row { OnOk result (Inserts_row change running.old running.new) }
+    ensures row { OnOk result (InsertsRow change running.old running.new) }
     ensures numbers { OnOk result (world.new ≡ record world.old { rows = change.row; writes = change.write }) }
     ensures err { OnErr result ((world.new ≡ world.old) × (running.new ≡ running.old)) }
 {
@@ -223,7 +223,7 @@ fn advance<'a>(
     world: &mut World,
     running: &mut Running,
 ) -> Result<Advanced<'a>, NoMemory>
-    requires { Is_in_order world.old running.old }
+    requires { IsInOrder world.old running.old }
     ensures ok { IfOk result (Advances catalog.now world.old running.old world.new running.new) }
     ensures err { OnErr result ((world.new ≡ world.old) × (running.new ≡ running.old)) }
 {
@@ -275,7 +275,7 @@ fn commit(
     running: &mut Running,
     answer: Answer,
 ) -> Result<(), NoMemory>
-    requires { Is_in_order world.old running.old }
+    requires { IsInOrder world.old running.old }
     ensures ok { OnOk result (world.new ≡ record world.old {
       history = world.old.history ++ latest_view world.old running.old.transaction.work ∷ [];
       replies = world.old.replies ++ given s.0 statement (answer_lines (answer_shown answer));
@@ -298,9 +298,9 @@ pub(crate) fn step_session(
     world: &mut World,
     session: &mut Session,
 ) -> Result<(), NoMemory>
-    requires { Is_orderly world.old session.old }
-    ensures ok { OnOk result (Steps_to catalog.now s.0 (slice_get statements.now session.old.next) world.old session.old world.new session.new) }
-    ensures orderly { OnOk result (Is_orderly world.new session.new) }
+    requires { IsOrderly world.old session.old }
+    ensures ok { OnOk result (StepsTo catalog.now s.0 (slice_get statements.now session.old.next) world.old session.old world.new session.new) }
+    ensures orderly { OnOk result (IsOrderly world.new session.new) }
     ensures err { OnErr result ((world.new ≡ world.old) × (session.new ≡ session.old)) }
 {
     let statement = session.next;

@@ -41,13 +41,13 @@ impl Model for World {
     ghost use Rattle.std.specs.Prelude.{map};
     ghost use Rattle.aq_run.specs.States.{World as Seen};
     ghost use Rattle.aq_machine.specs.Givens.{given_shown};
-    ghost use Rattle.aq_machine.specs.Versions.{databases, Are_committed};
+    ghost use Rattle.aq_machine.specs.Versions.{databases, AreCommitted};
 
     ghost Value = { Seen };
 
     ghost view = { λ w. record { history = databases w.commits w.versions.items; rows = w.rows; writes = w.writes; replies = map given_shown w.replies } };
 
-    ghost invariant = { λ w. Are_committed w.commits w.versions.items };
+    ghost invariant = { λ w. AreCommitted w.commits w.versions.items };
 }
 
 fn cell_matches(cell: Option<&Value>, value: &Value) -> bool

@@ -8,8 +8,8 @@ use Rattle.aq_run.specs.States.Target.{New_row}
 use Rattle.aq_run.specs.States.Task.{Rows as Rows_left}
 use Rattle.aq_machine.specs.Versions.{write_entry}
 use Rattle.aq_machine.specs.Shown.{task_shown}
-use Rattle.aq_machine.specs.Runnings.{In_progress}
-use Rattle.aq_machine.specs.Advances.{Goes_further}
+use Rattle.aq_machine.specs.Runnings.{InProgress}
+use Rattle.aq_machine.specs.Advances.{GoesFurther}
 use Rattle.aq_machine.specs.declared.step.Change.{Change}
 use Rattle.aq_machine.specs.declared.session.Task.TheVariants.{Rounds}
 use Rattle.aq_machine.specs.declared.session.Answer.TheVariants.{Inserted}
@@ -22,7 +22,7 @@ returns-in_default-clause-ok c =
     let writes = map write_entry c.running.inside.writes.items in
     let none : c.in-Rows.left.items ≡ [] = nil_from_length c.in-Rows.left.items (grind (arith, common_steps)) in
     let shown : task_shown c.running.inside.task ≡ Rows_left (Inserting c.in-Rows.table) [] c.in-Rows.done = rw (c.in-Rows.is, none) refl in
-    let P : In_progress → Type 0 = λ r. Goes_further c.args.catalog.now c.args.world.now r c.args.world.now (parts writes (Rounds (Inserted c.in-Rows.done)) c.running.inside.queued.items c.running.inside.round.items) in (
+    let P : InProgress → Type 0 = λ r. GoesFurther c.args.catalog.now c.args.world.now r c.args.world.now (parts writes (Rounds (Inserted c.in-Rows.done)) c.running.inside.queued.items c.running.inside.round.items) in (
       subst P c.running.view_is (goes-end c.args.catalog.now c.args.world.now writes c.running.inside.task c.in-Rows.table c.in-Rows.done c.running.inside.queued.items c.running.inside.round.items shown),
       rw (← c.running.view_is) at c.requires,
     )
@@ -37,7 +37,7 @@ returns-in_ok-draw_and_insert-in-Inserts-clause-ok c =
     let later = map New_row rest in
     let first : c.in-Rows.left.items ≡ values ∷ rest = first-and_rest c.in-Rows.left.items rest values (search rules) (search rules) refl in
     let shown : task_shown c.running.inside.task ≡ Rows_left (Inserting c.in-Rows.table) (New_row values ∷ later) c.in-Rows.done = rw (c.in-Rows.is, first) refl in
-    let is : running.task ≡ Rows_left (Inserting c.in-Rows.table) (New_row values ∷ later) c.in-Rows.done = sym (ap (λ (r : In_progress). r.task) c.running.view_is) ∙ shown in
+    let is : running.task ≡ Rows_left (Inserting c.in-Rows.table) (New_row values ∷ later) c.in-Rows.done = sym (ap (λ (r : InProgress). r.task) c.running.view_is) ∙ shown in
     let planned = rw c.in-Inserts.is at c.in_ok-fault-in-Rows.ensures in
     let table : change.table ≡ c.in-Rows.table = ap (λ (ch : Change). ch.table) planned.1 in
     let row : change.row ≡ world.rows + 1 = ap (λ (ch : Change). ch.row) planned.1 in

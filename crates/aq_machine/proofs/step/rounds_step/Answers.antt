@@ -3,10 +3,10 @@ use Rattle.aq_run.specs.States.Task.{Rounds}
 use Rattle.aq_run.specs.Effects.Effect.{Finishes}
 use Rattle.aq_run.specs.Steps.{event_plan}
 use Rattle.aq_run.specs.Steps.Plan.{Does_all}
-use Rattle.aq_machine.specs.Runnings.{In_progress}
+use Rattle.aq_machine.specs.Runnings.{InProgress}
 use Rattle.aq_machine.specs.Versions.{write_entry}
 use Rattle.aq_machine.specs.Shown.{task_shown, answer_shown}
-use Rattle.aq_machine.specs.Advances.{Goes_further}
+use Rattle.aq_machine.specs.Advances.{GoesFurther}
 use Rattle.aq_machine.proofs.Finds.{first-and_rest}
 use Rattle.aq_machine.proofs.StepKinds.{parts, goes-finish}
 use Rattle.aq_machine.proofs.step.rounds_step.Goals as goal
@@ -18,8 +18,8 @@ returns-clause-ok c =
     let first : c.running.inside.round.items ≡ c.in-Some.event.now ∷ c.pop_front.new.self.items =
     first-and_rest c.running.inside.round.items c.pop_front.new.self.items c.in-Some.event.now (search rules) (search rules) c.pop_front.ensures.rest in
     let plan : event_plan c.args.catalog.now c.args.world.now c.args.running.now.transaction.work c.in-Some.event.now ≡ Does_all (Finishes ∷ []) = rw c.in_default-2.is at c.in_ok-fault.ensures in
-    let P : In_progress → Type 0 = λ r. event_plan c.args.catalog.now c.args.world.now r.transaction.work c.in-Some.event.now ≡ Does_all (Finishes ∷ []) →
-    Goes_further c.args.catalog.now c.args.world.now r c.args.world.now (parts writes c.running.inside.task c.running.inside.queued.items c.pop_front.new.self.items) in (
+    let P : InProgress → Type 0 = λ r. event_plan c.args.catalog.now c.args.world.now r.transaction.work c.in-Some.event.now ≡ Does_all (Finishes ∷ []) →
+    GoesFurther c.args.catalog.now c.args.world.now r c.args.world.now (parts writes c.running.inside.task c.running.inside.queued.items c.pop_front.new.self.items) in (
       subst P c.running.view_is (rw first (goes-finish c.args.catalog.now c.args.world.now writes c.running.inside.task (answer_shown c.args.answer) c.running.inside.queued.items c.in-Some.event.now c.pop_front.new.self.items is)) plan,
       (let order = rw (← c.running.view_is) at c.requires.order in order),
     )
