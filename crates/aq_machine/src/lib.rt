@@ -1,0 +1,15 @@
+//! The step machine over plain lists in memory: a script and the state of its run.
+#![tactic(auto)]
+
+mod catalog;
+mod checks;
+mod machine;
+mod numbers;
+mod replies;
+mod session;
+mod step;
+mod world;
+
+pub use machine::Machine;
+pub use numbers::SessNo;
+pub use replies::Given;
