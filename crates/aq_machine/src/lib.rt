@@ -4,12 +4,11 @@
 mod catalog;
 mod checks;
 mod machine;
-mod numbers;
 mod replies;
 mod session;
 mod step;
 mod world;
 
 pub use machine::Machine;
-pub use numbers::SessNo;
+pub use aq_xids::SessNo;
 pub use replies::Given;

@@ -8,7 +8,7 @@ ghost use Rattle.aq_machine.specs.Givens.{given_shown};
 ghost use Rattle.aq_machine.specs.Machines.{OpensSessions};
 
 use crate::catalog::{Catalog, catalog_for, statements_for};
-use crate::numbers::SessNo;
+use aq_xids::SessNo;
 use crate::replies::Given;
 use crate::session::Session;
 use crate::step::step_session;

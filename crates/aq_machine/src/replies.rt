@@ -9,7 +9,7 @@ ghost use Rattle.aq_machine.specs.Found.{fault_shown};
 
 use crate::catalog::Catalog;
 use crate::checks::Fault;
-use crate::numbers::SessNo;
+use aq_xids::SessNo;
 use crate::session::Answer;
 use aq_base::{
     Code, ColNo, ForeignKey, Key, List, NoMemory, ReplyLine, TabNo, TextVal, UniqueKey, Value,

@@ -19,7 +19,7 @@ ghost use Rattle.aq_run.specs.States.{World as World_value};
 
 use crate::catalog::Catalog;
 use crate::checks::{Fault, event_fault, insert_fault_of};
-use crate::numbers::SessNo;
+use aq_xids::SessNo;
 use crate::replies::{answer_line, fault_lines, given_lines};
 use crate::session::{Answer, Event, Running, Session, Task, events_of};
 use crate::world::{Version, World};
