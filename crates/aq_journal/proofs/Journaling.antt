@@ -45,7 +45,7 @@ GoesOn-push before after s goes least =
       schedule = ap (λ (w : Schedule). w ++ s ∷ []) goes.schedule ∙ append_assoc before.schedule goes.later (s ∷ []);
       by_default = GoesByDefault-push (program_of before.script) before.state goes.later s goes.by_default least_there;
       ran = ap (λ script. step (program_of script) after.state s) goes.same_script ∙ ap (λ st. step (program_of before.script) st s) goes.ran
-        ∙ sym (run_from-push (program_of before.script) before.state goes.later s);
+          ∙ sym (run_from-push (program_of before.script) before.state goes.later s);
     }
 
 pub Finishes-from_none : (before after : Journal) → GoesOn before after → IsJournal after.script after.state after.schedule → ((s : ℕ) → is_enabled after.state s ≡ false) → Finishes before after

@@ -9,6 +9,6 @@ mod session;
 mod step;
 mod world;
 
-pub use machine::Machine;
 pub use aq_xids::SessNo;
+pub use machine::Machine;
 pub use replies::Given;

@@ -9,11 +9,11 @@ ghost use Rattle.aq_machine.specs.Found.{fault_shown};
 
 use crate::catalog::Catalog;
 use crate::checks::Fault;
-use aq_xids::SessNo;
 use crate::session::Answer;
 use aq_base::{
     Code, ColNo, ForeignKey, Key, List, NoMemory, ReplyLine, TabNo, TextVal, UniqueKey, Value,
 };
+use aq_xids::SessNo;
 use std::alloc::Global;
 
 /// A line of a reply, with the session and the number of its statement, counted from 1.

@@ -19,11 +19,11 @@ ghost use Rattle.aq_run.specs.States.{World as World_value};
 
 use crate::catalog::Catalog;
 use crate::checks::{Fault, event_fault, insert_fault_of};
-use aq_xids::SessNo;
 use crate::replies::{answer_line, fault_lines, given_lines};
 use crate::session::{Answer, Event, Running, Session, Task, events_of};
 use crate::world::{Version, World};
 use aq_base::{Bound, Copies, List, NoMemory, Row, RowNo, TabNo};
+use aq_xids::SessNo;
 use std::alloc::Global;
 use std::collections::VecDeque;
 use std::mem::swap;
