@@ -28,7 +28,7 @@ running_plan cat world running me = task_plan cat world (with_running running me
 
 -- a session that has taken its next statement, or has ended for want of one
 abbrev pub started : Option Bound → Session → Session
-started None me = record me { transaction = None; tasks = []; ended = true }
+started None me = record me { ended = true }
 started (Some statement) me =
     record me {
       next = me.next + 1;

@@ -154,3 +154,6 @@ impl Machine {
         &self.catalog.tables
     }
 }
+
+#[cfg(test)]
+mod tests;

@@ -45,10 +45,7 @@ fn start(alloc: Global, statement: Option<&Bound>, session: &mut Session) -> Res
     ensures err { OnErr result (session.new ≡ session.old) }
 {
     match statement {
-        None => {
-            session.running = None;
-            session.ended = true;
-        }
+        None => session.ended = true,
         Some(Bound::InsertRows { table, rows }) => {
             let next = session.next.checked_add(1).ok_or(NoMemory)?;
             let left = queue_of(alloc, rows.as_slice())?;
