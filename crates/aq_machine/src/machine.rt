@@ -154,6 +154,3 @@ impl Machine {
         &self.catalog.tables
     }
 }
-
-#[cfg(test)]
-mod tests;
