@@ -4,3 +4,4 @@ pub mod Effects
 pub mod Steps
 pub mod Runs
 pub mod Texts
+pub mod Told

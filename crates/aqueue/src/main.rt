@@ -1,7 +1,41 @@
-//! `aqueue`: runs a script of sessions over tables in memory.
+//! `aqueue` runs a script of sessions over tables in memory: `aqueue replay` reads it from standard input, and writes the replies, the tables
+//! and the schedule of its steps to standard output.
 #![tactic(auto)]
 
-mod print;
-mod schedule;
+mod program;
+mod replay;
 
-fn main() {}
+use crate::program::aqueue;
+use aq_base::{List, NoMemory, TextVal};
+use aq_causes::{StdSink, StdSource};
+use std::process::ExitCode;
+use std::{env, io};
+
+#[cfg(test)]
+mod tests;
+
+// The words after the program's name. Words that are no text are no list that is built, as no words are.
+fn words<R: Env + AllocGlobal>(rt: &R) -> Result<List<TextVal>, NoMemory> {
+    let mut words = List::new(rt.alloc());
+    match env::args(rt) {
+        Ok(args) => {
+            for word in args.skip(1) {
+                words.push(TextVal::from_string(word))?;
+            }
+        }
+        Err(fault) => {
+            if fault.kind() == io::ErrorKind::OutOfMemory {
+                return Err(NoMemory);
+            }
+        }
+    }
+    Ok(words)
+}
+
+fn main(rt: HostRuntime) -> ExitCode {
+    let status = match words(&rt) {
+        Err(NoMemory) => 6,
+        Ok(words) => aqueue(rt.alloc(), &words, &mut StdSource::new(rt.stdin()), &mut StdSink::new(rt.stdout())),
+    };
+    ExitCode::from(status)
+}

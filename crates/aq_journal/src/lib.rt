@@ -1,0 +1,7 @@
+//! A run with its schedule, and its text.
+#![tactic(auto)]
+
+mod print;
+mod schedule;
+
+pub use schedule::Runs;

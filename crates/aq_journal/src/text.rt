@@ -1,0 +1,60 @@
+//! The text of a machine's run.
+
+ghost use Rattle.std.specs.Prelude.{◌≡◌, ◌++◌, map, IfOk, OnOk};
+ghost use Rattle.aq_base.specs.Setup.{program_of};
+ghost use Rattle.aq_run.specs.States.{last_database};
+ghost use Rattle.aq_run.specs.Texts.{given_text, replies_text, tables_text, text_of};
+ghost use Rattle.aq_machine.specs.Shown.{given_shown};
+
+use crate::print::{push_place, push_reply, push_table};
+use crate::schedule::push_schedule;
+use aq_base::{List, NoMemory, SessionText, TabNo, Table};
+use aq_machine::{Given, Machine};
+use std::alloc::Global;
+
+fn push_given(out: &mut Vec<u8>, sessions: &[SessionText], given: &Given) -> Result<(), NoMemory>
+    ensures { OnOk result (out.new.items ≡ out.old.items ++ given_text (map (λ s. s.name) sessions.now) (given_shown given.now)) }
+{
+    let name = match sessions.get(usize::from(given.session.0)) {
+        None => "",
+        Some(session) => session.name.as_str(),
+    };
+    push_place(out, name, given.statement)?;
+    push_reply(out, &given.line)?;
+    Ok(out.push(b'\n')?)
+}
+
+fn push_replies(out: &mut Vec<u8>, sessions: &[SessionText], replies: &[Given]) -> Result<(), NoMemory>
+    ensures { OnOk result (out.new.items ≡ out.old.items ++ replies_text (map (λ s. s.name) sessions.now) (map given_shown replies.now)) }
+{
+    for given in replies {
+        push_given(out, sessions, given)?;
+    }
+    Ok(())
+}
+
+fn push_tables(out: &mut Vec<u8>, machine: &Machine, tables: &[Table]) -> Result<(), NoMemory>
+    ensures { OnOk result (out.new.items ≡ out.old.items ++ tables_text 0 tables.now (last_database machine.now.state.world)) }
+{
+    let mut left = tables;
+    let mut number: u16 = 0;
+    'tables: while let Some((table, rest)) = left.split_first() {
+        let rows = machine.table_rows(TabNo::new(number))?;
+        push_table(out, table, rows.as_slice())?;
+        number = number.checked_add(1).ok_or(NoMemory)?;
+        left = rest;
+    }
+    Ok(())
+}
+
+/// The replies, the tables and the schedule. The error is want of memory.
+pub fn text(alloc: Global, machine: &Machine, steps: &[u8]) -> Result<List<u8>, NoMemory>
+    ensures { IfOk result (λ output. output ≡ text_of (program_of machine.now.script) machine.now.state steps.now) }
+{
+    let mut out = Vec::new(alloc);
+    let sessions = machine.script().sessions.as_slice();
+    push_replies(&mut out, sessions, machine.replies().as_slice())?;
+    push_tables(&mut out, machine, machine.tables().as_slice())?;
+    push_schedule(&mut out, sessions, steps)?;
+    Ok(List::from_vec(out))
+}

@@ -1,0 +1,139 @@
+//! The top call: all that the program does.
+
+ghost use Rattle.std.specs.Prelude.{◌≡◌, ℕ, ◌<◌, ◌≤◌, [], ◌∷◌, true, false, length, take, Some, IfOk, IfSome};
+ghost use Rattle.std.specs.Io.KnownBytes.{Keeps, Appends};
+ghost use Rattle.aq_base.specs.declared.fault.SqlFault.{SqlFault};
+ghost use Rattle.aq_causes.specs.Counts.{Rose};
+ghost use Rattle.aq_parse.specs.Reading.{Reads, HasNoReading, not_built};
+ghost use Rattle.aqueue.specs.Answers.{are_replay, script_limit, usage_line, too_long_line, refusal_line, IsReplay, IsAnswer, is_one_of};
+ghost use Rattle.aqueue.specs.Outcomes.{OutcomeCases};
+
+use crate::replay::{RunFault, replay_script};
+use aq_base::{List, NoMemory, SqlFault, TextVal};
+use aq_causes::{Gathered, Sink, Source, Written, read_all, write_all};
+use itoa::Buffer;
+use std::alloc::Global;
+
+/// The most bytes that a script may have.
+pub const SCRIPT_LIMIT: usize = 16777216;
+
+const USAGE: &[u8] = b"aqueue: usage: aqueue run [--trace] | replay [--trace] | check | drill --rows N\n";
+
+const TOO_LONG: &[u8] = b"aqueue: script longer than 16777216 bytes\n";
+
+// What the words and the input come to, before anything is written.
+#[derive(Debug, Drop)]
+pub enum Outcome {
+    // The status, with what is to be written.
+    Writes { status: u8, text: List<u8> },
+    // The source failed.
+    ReadFailed,
+}
+
+fn is_replay(words: &List<TextVal>) -> bool
+    ensures { result ≡ are_replay words.now }
+{
+    match words.as_slice() {
+        [word] => word.bytes() == b"replay",
+        _ => false,
+    }
+}
+
+fn line_of(alloc: Global, text: &[u8]) -> Result<List<u8>, NoMemory>
+    ensures { IfOk result (λ made. made ≡ text.now) }
+{
+    Ok(List::from_vec(Vec::from_slice(alloc, text)?))
+}
+
+fn refusal(alloc: Global, line: u64, fault: &SqlFault) -> Result<List<u8>, NoMemory>
+    ensures { IfOk result (λ made. made ≡ refusal_line line fault.now) }
+{
+    let mut out = Vec::from_slice(alloc, b"aqueue: line ")?;
+    out.extend_from_slice(Buffer::new().format(line).as_bytes())?;
+    out.extend_from_slice(b": ")?;
+    out.extend_from_slice(&fault.code.0)?;
+    out.push(b' ')?;
+    out.extend_from_slice(fault.text.bytes())?;
+    out.push(b'\n')?;
+    Ok(List::from_vec(out))
+}
+
+fn replayed(alloc: Global, bytes: &[u8]) -> Result<Outcome, NoMemory>
+    requires { length bytes.now ≤ script_limit }
+    ensures { (words : List Text) (before now : ℕ) → are_replay words ≡ true → IfOk result (OutcomeCases words (Some bytes.now) before now) }
+{
+    match replay_script(alloc, bytes) {
+        Ok(text) => Ok(Outcome::Writes { status: 0, text }),
+        Err(RunFault::NoMemory) => Err(NoMemory),
+        Err(RunFault::Script { line, fault }) => Ok(Outcome::Writes {
+            status: 2,
+            text: refusal(alloc, line, &fault)?,
+        }),
+    }
+}
+
+fn outcome<S: Source>(alloc: Global, words: &List<TextVal>, input: &mut S) -> Result<Outcome, NoMemory>
+    ensures cases { IfOk result (OutcomeCases words.now (S.left input.old) (S.faults input.old) (S.faults input.new)) }
+    ensures count { S.faults input.old ≤ S.faults input.new }
+{
+    if !is_replay(words) {
+        return Ok(Outcome::Writes {
+            status: 1,
+            text: line_of(alloc, USAGE)?,
+        });
+    }
+    match read_all(alloc, input, SCRIPT_LIMIT)? {
+        Gathered::All(bytes) => replayed(alloc, bytes.as_slice()),
+        Gathered::Failed => Ok(Outcome::ReadFailed),
+        Gathered::TooLong => Ok(Outcome::Writes {
+            status: 7,
+            text: line_of(alloc, TOO_LONG)?,
+        }),
+    }
+}
+
+/// Does all that the program does, and answers its exit status.
+///
+/// | Status | Meaning |
+/// |---|---|
+/// | 0 | the text of the run was written |
+/// | 1 | the words are no list of words that is built; the usage line was written |
+/// | 2 | the bytes are no script; a line with the place and the cause was written |
+/// | 4 | the source failed; nothing was written |
+/// | 5 | the sink failed; a beginning of the text or line was written |
+/// | 6 | want of memory, which may come at any growth before the first byte is written; nothing was written |
+/// | 7 | the source gave more than 16,777,216 bytes; a line was written |
+pub fn aqueue<S: Source, K: Sink>(alloc: Global, words: &List<TextVal>, input: &mut S, output: &mut K) -> u8
+    // 0: all bytes were read, and what was written is the text of the run of the script that they are.
+    ensures done { result ≡ 0 → (are_replay words.now ≡ true) × Wrote (S.left input.old) (K.written output.old) (K.written output.new) IsReplay }
+    // 1: exactly where the words are no list that is built.
+    ensures usage { result ≡ 1 → (are_replay words.now ≡ false) × Appends (K.written output.old) (K.written output.new) usage_line }
+    ensures usage_comes { are_replay words.now ≡ false → is_one_of (1 ∷ 5 ∷ 6 ∷ []) result ≡ true }
+    // 2: exactly where the bytes are no script.
+    ensures refused { result ≡ 2 → (are_replay words.now ≡ true) × IfSome (S.left input.old) HasNoReading × Appends (K.written output.old) (K.written output.new) (refusal_line 1 not_built) }
+    ensures refused_comes { are_replay words.now ≡ true → IfSome (S.left input.old) (λ bytes. length bytes ≤ script_limit → HasNoReading bytes → is_one_of (2 ∷ 4 ∷ 5 ∷ 6 ∷ []) result ≡ true) }
+    // 4: only where the source's count of faults rose.
+    ensures read_failed { result ≡ 4 → (are_replay words.now ≡ true) × Rose (S.faults input.old) (S.faults input.new) × Keeps (K.written output.old) (K.written output.new) }
+    // 5: only where the sink's count of faults rose; what it took begins an answer.
+    ensures write_failed { result ≡ 5 → Rose (K.faults output.old) (K.faults output.new) × WroteBeginning words.now (S.left input.old) (K.written output.old) (K.written output.new) }
+    // 6: nothing was written.
+    ensures no_memory { result ≡ 6 → Keeps (K.written output.old) (K.written output.new) }
+    // 7: exactly where more bytes came than a script may have.
+    ensures too_long { result ≡ 7 → (are_replay words.now ≡ true) × IfSome (S.left input.old) (λ bytes. script_limit < length bytes) × Appends (K.written output.old) (K.written output.new) too_long_line }
+    ensures too_long_comes { are_replay words.now ≡ true → IfSome (S.left input.old) (λ bytes. script_limit < length bytes → is_one_of (4 ∷ 5 ∷ 6 ∷ 7 ∷ []) result ≡ true) }
+    // There is no other status, and where no cause is met it is 0 or 6.
+    ensures statuses { is_one_of (0 ∷ 1 ∷ 2 ∷ 4 ∷ 5 ∷ 6 ∷ 7 ∷ []) result ≡ true }
+    ensures complete { are_replay words.now ≡ true → IfSome (S.left input.old) (λ bytes. length bytes ≤ script_limit → (script : Script) → Reads bytes script →
+        ¬ Rose (S.faults input.old) (S.faults input.new) → ¬ Rose (K.faults output.old) (K.faults output.new) → is_one_of (0 ∷ 6 ∷ []) result ≡ true) }
+    ensures source_count { S.faults input.old ≤ S.faults input.new }
+    ensures sink_count { K.faults output.old ≤ K.faults output.new }
+{
+    match outcome(alloc, words, input) {
+        Err(NoMemory) => 6,
+        Ok(Outcome::ReadFailed) => 4,
+        Ok(Outcome::Writes { status, text }) => match write_all(output, text.as_slice()) {
+            Written::Done => status,
+            Written::Failed => 5,
+        },
+    }
+}

@@ -1,0 +1,162 @@
+//! Worked examples of the whole program, from bytes to bytes.
+
+ghost use Rattle.std.specs.Prelude.{◌≤◌};
+
+use crate::program::aqueue;
+use aq_base::{List, NoMemory, TextVal};
+use aq_causes::{MemorySink, MemorySource};
+use std::alloc::Global;
+use std::test::Fail;
+
+const PARENT_AND_CHILD: &str = "\\setup
+CREATE TABLE p (id integer PRIMARY KEY);
+CREATE TABLE c (pid integer REFERENCES p);
+\\session a
+INSERT INTO p VALUES (1); INSERT INTO c VALUES (1); INSERT INTO c VALUES (2);
+";
+
+const ITS_TEXT: &str = "a.1: INSERT 0 1
+a.2: INSERT 0 1
+a.3: ERROR 23503 insert or update on table \"c\" violates foreign key constraint \"c_pid_fkey\"
+a.3: DETAIL Key (pid)=(2) is not present in table \"p\".
+table p (id)
+(1)
+table c (pid)
+(1)
+schedule a*18
+";
+
+const USAGE: &str = "aqueue: usage: aqueue run [--trace] | replay [--trace] | check | drill --rows N\n";
+
+const NOT_BUILT: &str = "aqueue: line 1: 0A000 this form is not built\n";
+
+fn words_of(alloc: Global, texts: &[&str]) -> Result<List<TextVal>, NoMemory> {
+    let mut words = List::new(alloc);
+    for text in texts {
+        words.push(TextVal::new(alloc, *text)?)?;
+    }
+    Ok(words)
+}
+
+fn bytes_of(alloc: Global, text: &str) -> Result<List<u8>, NoMemory> {
+    Ok(List::from_vec(Vec::from_slice(alloc, text.as_bytes())?))
+}
+
+fn numbers_of(alloc: Global, numbers: &[u64]) -> Result<List<u64>, NoMemory> {
+    Ok(List::from_vec(Vec::from_slice(alloc, numbers)?))
+}
+
+// The status and the sink behind a call whose source gives at most `piece` bytes at once and fails at the calls `fail`, and whose sink has `room`.
+fn answer_of(alloc: Global, words: &[&str], script: &str, piece: usize, fail: &[u64], room: usize) -> Result<(u8, MemorySink), NoMemory>
+    requires { 1 ≤ piece }
+{
+    let words = words_of(alloc, words)?;
+    let mut source = MemorySource::new(bytes_of(alloc, script)?, piece, numbers_of(alloc, fail)?);
+    let mut sink = MemorySink::new(alloc, room, List::new(alloc))?;
+    let status = aqueue(alloc, &words, &mut source, &mut sink);
+    Ok((status, sink))
+}
+
+#[test]
+fn a_missing_parent_is_refused_in_any_pieces(rt: HostRuntime) -> Result<(), Fail> {
+    for piece in [1usize, 2, 7, 4096] {
+        if piece >= 1 {
+            let (status, sink) = answer_of(rt.alloc(), &["replay"], PARENT_AND_CHILD, piece, &[], 4096)?;
+            assert_eq!(rt; status, 0, "in pieces of {piece}");
+            assert_eq!(rt; sink.bytes(), ITS_TEXT.as_bytes(), "in pieces of {piece}");
+        }
+    }
+    Ok(())
+}
+
+#[test]
+fn short_scripts(rt: HostRuntime) -> Result<(), Fail> {
+    let cases = [
+        ("", 0u8, "schedule\n"),
+        ("\\setup", 0, "schedule\n"),
+        ("\\session a", 0, "schedule a*1\n"),
+        ("\\setup CREATE TABLE T (Id INTEGER);", 0, "table t (id)\nschedule\n"),
+        ("\\setup CREATE TABLE t (id text);", 2, NOT_BUILT),
+        ("\\session a SELECT * FROM t;", 2, NOT_BUILT),
+        ("\\session a INSERT INTO t VALUES (1);", 2, NOT_BUILT),
+        ("-- nothing", 2, NOT_BUILT),
+    ];
+    for (script, status, text) in cases {
+        let (got, sink) = answer_of(rt.alloc(), &["replay"], script, 16, &[], 4096)?;
+        assert_eq!(rt; got, status, "at {script}");
+        assert_eq!(rt; sink.bytes(), text.as_bytes(), "at {script}");
+    }
+    Ok(())
+}
+
+#[test]
+fn a_statement_keeps_all_of_its_rows_or_none(rt: HostRuntime) -> Result<(), Fail> {
+    let script = "\\setup CREATE TABLE item (id integer PRIMARY KEY, price integer);
+\\session shop INSERT INTO item VALUES (1, 250), (2, 300), (1, 275), (3, 120); INSERT INTO item VALUES (3, 120);";
+    let text = "shop.1: ERROR 23505 duplicate key value violates unique constraint \"item_pkey\"
+shop.1: DETAIL Key (id)=(1) already exists.
+shop.2: INSERT 0 1
+table item (id, price)
+(3, 120)
+schedule shop*10
+";
+    let (status, sink) = answer_of(rt.alloc(), &["replay"], script, 4096, &[], 4096)?;
+    assert_eq!(rt; status, 0);
+    assert_eq!(rt; sink.bytes(), text.as_bytes());
+    Ok(())
+}
+
+#[test]
+fn only_replay_is_built(rt: HostRuntime) -> Result<(), Fail> {
+    let cases: [&[&str]; 5] = [&[], &["check"], &["replay", "--trace"], &["Replay"], &["replay", "replay"]];
+    for words in cases {
+        let (status, sink) = answer_of(rt.alloc(), words, PARENT_AND_CHILD, 4096, &[], 4096)?;
+        assert_eq!(rt; status, 1);
+        assert_eq!(rt; sink.bytes(), USAGE.as_bytes());
+    }
+    Ok(())
+}
+
+#[test]
+fn a_source_that_fails_at_any_call(rt: HostRuntime) -> Result<(), Fail> {
+    // In pieces of 16 the script takes 12 calls, and the one that finds its end is the 13th.
+    for call in 1..14u64 {
+        let (status, sink) = answer_of(rt.alloc(), &["replay"], PARENT_AND_CHILD, 16, &[call], 4096)?;
+        assert_eq!(rt; status, 4, "at call {call}");
+        assert_eq!(rt; sink.bytes(), b"".as_slice(), "at call {call}");
+    }
+    let (status, _sink) = answer_of(rt.alloc(), &["replay"], PARENT_AND_CHILD, 16, &[14], 4096)?;
+    assert_eq!(rt; status, 0);
+    Ok(())
+}
+
+#[test]
+fn a_sink_of_any_room(rt: HostRuntime) -> Result<(), Fail> {
+    let whole = ITS_TEXT.as_bytes();
+    for room in 0..whole.len() {
+        let (status, sink) = answer_of(rt.alloc(), &["replay"], PARENT_AND_CHILD, 4096, &[], room)?;
+        assert_eq!(rt; status, 5, "with room for {room}");
+        assert_eq!(rt; sink.bytes(), &whole[..room], "with room for {room}");
+    }
+    let (status, sink) = answer_of(rt.alloc(), &["replay"], PARENT_AND_CHILD, 4096, &[], 40)?;
+    assert_eq!(rt; status, 5);
+    assert!(rt; sink.bytes().ends_with(b"a.3: ERR"));
+    let (status, sink) = answer_of(rt.alloc(), &["replay"], PARENT_AND_CHILD, 4096, &[], whole.len())?;
+    assert_eq!(rt; status, 0);
+    assert_eq!(rt; sink.bytes(), whole);
+    Ok(())
+}
+
+#[test]
+fn a_script_that_is_too_long(rt: HostRuntime) -> Result<(), Fail> {
+    let words = words_of(rt.alloc(), &["replay"])?;
+    for (length, status) in [(16777216usize, 0u8), (16777217, 7)] {
+        let blanks = vec![in rt.alloc(); b' '; length]?;
+        let mut source = MemorySource::new(List::from_vec(blanks), 65536, List::new(rt.alloc()));
+        let mut sink = MemorySink::new(rt.alloc(), 4096, List::new(rt.alloc()))?;
+        assert_eq!(rt; aqueue(rt.alloc(), &words, &mut source, &mut sink), status);
+        let text = if status == 0 { "schedule\n" } else { "aqueue: script longer than 16777216 bytes\n" };
+        assert_eq!(rt; sink.bytes(), text.as_bytes());
+    }
+    Ok(())
+}

@@ -1,0 +1,7 @@
+\setup
+CREATE TABLE p (id integer PRIMARY KEY);
+CREATE TABLE c (pid integer REFERENCES p);
+\session a
+INSERT INTO p VALUES (1);
+INSERT INTO c VALUES (1);
+INSERT INTO c VALUES (2);
