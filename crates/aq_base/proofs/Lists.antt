@@ -1,0 +1,68 @@
+-- Elements of lists.
+use Rattle.std.proofs.Common.{◌≡◌, ℕ, zero, suc, ◌⊎◌, inl, inr, ⊎_elim, List, [], ◌∷◌, ◌++◌, length, map, slice_get, Some, None, find, cond, Contains, Bool, false, sym, ◌∙◌, refl, ap, subst, arith}
+use Rattle.std.proofs.lemmas.Option.{same_Some, none-some}
+use Rattle.std.proofs.lemmas.Bool.{cases_Bool}
+
+pub Contains-first : {X : Type 0} (x : X) (xs : List X) → Contains (x ∷ xs) x
+Contains-first x xs = (0, omega arith, refl)
+
+pub Contains-later : {X : Type 0} (x y : X) (xs : List X) → Contains xs y → Contains (x ∷ xs) y
+Contains-later x y xs c = (suc c.0, omega arith, c.2)
+
+-- an element of a list is its first or a later one
+pub Contains-cons_cases : {X : Type 0} (x y : X) (xs : List X) → Contains (x ∷ xs) y → (x ≡ y) ⊎ Contains xs y
+Contains-cons_cases x y xs (zero, within, is) = inl is
+Contains-cons_cases x y xs (suc k, within, is) = inr (k, omega arith, is)
+
+pub Contains-none : {X : Type 0} (y : X) → Contains [] y → ⊥
+Contains-none y c = omega arith
+
+pub Contains-map : {X Y : Type 0} (f : X → Y) (xs : List X) (x : X) → Contains xs x → Contains (map f xs) (f x)
+Contains-map f [] x c = absurd (Contains-none x c)
+Contains-map f (y ∷ xs) x c =
+    ⊎_elim (λ first. subst (λ z. Contains (f y ∷ map f xs) (f z)) first (Contains-first (f y) (map f xs))) (λ later. Contains-later (f y) (f x) (map f xs) (Contains-map f xs x later)) (Contains-cons_cases y x xs c)
+
+-- an element of the images is an image
+pub Contains-map_from : {X Y : Type 0} (f : X → Y) (xs : List X) (y : Y) → Contains (map f xs) y → (x : X) × Contains xs x × (f x ≡ y)
+Contains-map_from f [] y c = absurd (Contains-none y c)
+Contains-map_from {X = X} f (x ∷ xs) y c =
+    ⊎_elim (λ first. (x, Contains-first x xs, first)) (λ later. let found = Contains-map_from f xs y later in (found.0, Contains-later x found.0 xs found.1, found.2)) (Contains-cons_cases (f x) y (map f xs) c)
+
+pub Contains-slice_get : {X : Type 0} (xs : List X) (n : ℕ) (x : X) → slice_get xs n ≡ Some x → Contains xs x
+Contains-slice_get [] n x e = absurd (grind (arith, e))
+Contains-slice_get (y ∷ xs) zero x e = subst (Contains (y ∷ xs)) (same_Some y x e) (Contains-first y xs)
+Contains-slice_get (y ∷ xs) (suc n) x e = Contains-later y x xs (Contains-slice_get xs n x e)
+
+-- each element has a place
+pub slice_get-Contains : {X : Type 0} (xs : List X) (x : X) → Contains xs x → (n : ℕ) × (slice_get xs n ≡ Some x)
+slice_get-Contains [] x c = absurd (Contains-none x c)
+slice_get-Contains (y ∷ xs) x c =
+    ⊎_elim (λ first. (0, ap Some first)) (λ later. let found = slice_get-Contains xs x later in (suc found.0, found.1)) (Contains-cons_cases y x xs c)
+
+pub slice_get-append : {X : Type 0} (xs ys : List X) (n : ℕ) (x : X) → slice_get xs n ≡ Some x → slice_get (xs ++ ys) n ≡ Some x
+slice_get-append [] ys n x e = absurd (grind (arith, e))
+slice_get-append (y ∷ xs) ys zero x e = e
+slice_get-append (y ∷ xs) ys (suc n) x e = slice_get-append xs ys n x e
+
+pub slice_get-push : {X : Type 0} (xs : List X) (y : X) → slice_get (xs ++ y ∷ []) (length xs) ≡ Some y
+slice_get-push [] y = refl
+slice_get-push (x ∷ xs) y = slice_get-push xs y
+
+-- what stands in a list with one element more at its end stood there, or is that element
+pub slice_get-push_cases : {X : Type 0} (xs : List X) (y : X) (n : ℕ) (x : X) → slice_get (xs ++ y ∷ []) n ≡ Some x → (slice_get xs n ≡ Some x) ⊎ ((n ≡ length xs) × (y ≡ x))
+slice_get-push_cases [] y zero x e = inr (refl, same_Some y x e)
+slice_get-push_cases [] y (suc n) x e = absurd (grind (arith, e))
+slice_get-push_cases (z ∷ xs) y zero x e = inl e
+slice_get-push_cases (z ∷ xs) y (suc n) x e = ⊎_elim (λ old. inl old) (λ new. inr (ap suc new.0, new.1)) (slice_get-push_cases xs y n x e)
+
+-- where no element passes a test, each fails it
+pub find_none : {X : Type 0} (test : X → Bool) (xs : List X) → find test xs ≡ None → (x : X) → Contains xs x → test x ≡ false
+find_none test [] none x c = absurd (Contains-none x c)
+find_none test (y ∷ xs) none x c =
+    ⊎_elim
+    (λ passes. absurd (none-some y (sym none ∙ ap (λ b. cond b (Some y) (find test xs)) passes)))
+    (λ fails. ⊎_elim
+    (λ first. subst (λ z. test z ≡ false) first fails)
+    (λ later. find_none test xs (sym (ap (λ b. cond b (Some y) (find test xs)) fails) ∙ none) x later)
+    (Contains-cons_cases y x xs c))
+    (cases_Bool (test y))

@@ -1,0 +1,111 @@
+-- Look-ups in maps.
+use Rattle.std.proofs.Common.{◌≡◌, ◌≢◌, ℕ, ◌<◌, Bool, true, false, cond, T, ◌==◌, ◌&&◌, ◌⊎◌, inl, inr, ⊎_elim, List, [], ◌∷◌, Some, None, nat_cmp, refl, sym, ◌∙◌, ap, subst, arith}
+use Rattle.std.specs.List.{list_any}
+use Rattle.std.specs.Ordering.{is_lt}
+use Rattle.std.specs.Cmp.{unsigned_tied}
+use Rattle.std.specs.FinMap.Entries.{is_sorted, below_all, find-put, is_sorted-put}
+use Rattle.std.proofs.lemmas.Cmp.{nat_cmp_total}
+use Rattle.std.proofs.lemmas.Bool.{false≢true, cases_eq, eq-eqb, ne_eqb, or_parts, or_cases}
+use Rattle.std.proofs.lemmas.Bool.Decides.{nat_tests}
+use Rattle.std.proofs.lemmas.Option.{same_Some, none-some}
+use Rattle.aq_base.specs.Maps.{at, with_at}
+
+-- the keys rise, so that each stands once
+abbrev pub Keys_rise : {X : Type 0} → List (ℕ × X) → Type 0
+Keys_rise entries = T (is_sorted nat_cmp entries)
+
+-- the second map is the first with a value at a number where it had none
+pub record Adds {X : Type 0} (n : ℕ) (x : X) (before after : List (ℕ × X)) : Type 0 where
+  pub free : at n before ≡ None
+  pub here : at n after ≡ Some x
+  pub elsewhere : (q : ℕ) → q ≢ n → at q after ≡ at q before
+
+pub at-cons : {X : Type 0} (q : ℕ) (entry : ℕ × X) (entries : List (ℕ × X)) → at q (entry ∷ entries) ≡ cond (q == entry.0) (Some entry.1) (at q entries)
+at-cons q entry entries = ap (λ b. cond b (Some entry.1) (at q entries)) (unsigned_tied q entry.0)
+
+pub at-with_at : {X : Type 0} (q n : ℕ) (x : X) (entries : List (ℕ × X)) → at q (with_at n x entries) ≡ cond (q == n) (Some x) (at q entries)
+at-with_at q n x entries = find-put nat_cmp nat_cmp_total q n x entries ∙ ap (λ b. cond b (Some x) (at q entries)) (unsigned_tied q n)
+
+pub at-with_at_same : {X : Type 0} (n : ℕ) (x : X) (entries : List (ℕ × X)) → at n (with_at n x entries) ≡ Some x
+at-with_at_same n x entries = at-with_at n n x entries ∙ ap (λ b. cond b (Some x) (at n entries)) (eq-eqb n n refl)
+
+pub at-with_at_other : {X : Type 0} (q n : ℕ) (x : X) (entries : List (ℕ × X)) → q ≢ n → at q (with_at n x entries) ≡ at q entries
+at-with_at_other q n x entries other = at-with_at q n x entries ∙ ap (λ b. cond b (Some x) (at q entries)) (ne_eqb q n other)
+
+pub Keys_rise-with_at : {X : Type 0} (n : ℕ) (x : X) (entries : List (ℕ × X)) → Keys_rise entries → Keys_rise (with_at n x entries)
+Keys_rise-with_at n x entries rise = is_sorted-put nat_cmp nat_cmp_total n x entries rise
+
+pub Adds-with_at : {X : Type 0} (n : ℕ) (x : X) (entries : List (ℕ × X)) → at n entries ≡ None → Adds n x entries (with_at n x entries)
+Adds-with_at n x entries free = record { free = free; here = at-with_at_same n x entries; elsewhere = λ q other. at-with_at_other q n x entries other }
+
+-- what was there stays
+pub Adds-kept : {X : Type 0} (n : ℕ) (x : X) (before after : List (ℕ × X)) → Adds n x before after → (q : ℕ) (y : X) → at q before ≡ Some y → at q after ≡ Some y
+Adds-kept n x before after adds q y was =
+    ⊎_elim (λ same. absurd (none-some y (sym adds.free ∙ rw (← same) was))) (λ other. adds.elsewhere q other ∙ was) (cases_eq q n)
+
+-- what is there is new, or was there
+pub Adds-cases : {X : Type 0} (n : ℕ) (x : X) (before after : List (ℕ × X)) → Adds n x before after → (q : ℕ) (y : X) → at q after ≡ Some y → ((q ≡ n) × (y ≡ x)) ⊎ (at q before ≡ Some y)
+Adds-cases n x before after adds q y is =
+    ⊎_elim (λ same. inl (same, same_Some y x (sym is ∙ ap (λ k. at k after) same ∙ adds.here))) (λ other. inr (sym (adds.elsewhere q other) ∙ is)) (cases_eq q n)
+
+pub at-first : {X : Type 0} (entry : ℕ × X) (entries : List (ℕ × X)) → at entry.0 (entry ∷ entries) ≡ Some entry.1
+at-first entry entries = at-cons entry.0 entry entries ∙ ap (λ b. cond b (Some entry.1) (at entry.0 entries)) (eq-eqb entry.0 entry.0 refl)
+
+pub at-rest : {X : Type 0} (q : ℕ) (entry : ℕ × X) (entries : List (ℕ × X)) → q ≢ entry.0 → at q (entry ∷ entries) ≡ at q entries
+at-rest q entry entries other = at-cons q entry entries ∙ ap (λ b. cond b (Some entry.1) (at q entries)) (ne_eqb q entry.0 other)
+
+below : (a b : ℕ) → T (is_lt (nat_cmp a b)) → a < b
+below a b less = grind (arith, nat_tests)
+
+parts : (a b : Bool) → T (a && b) → T a × T b
+parts true true both = (tt, tt)
+parts true false both = absurd both
+parts false b both = absurd both
+
+-- a key below all others isn't among them
+pub at-below : {X : Type 0} (n : ℕ) (entries : List (ℕ × X)) → T (below_all nat_cmp n entries) → at n entries ≡ None
+at-below n [] less = refl
+at-below n (entry ∷ entries) less =
+    let both = parts _ _ less in
+    let first = below n entry.0 both.0 in
+    at-rest n entry entries (λ same. omega arith) ∙ at-below n entries both.1
+
+-- the first key isn't among the others
+pub at-first_alone : {X : Type 0} (entry : ℕ × X) (entries : List (ℕ × X)) → Keys_rise (entry ∷ entries) → at entry.0 entries ≡ None
+at-first_alone entry entries rise = at-below entry.0 entries (parts _ _ rise).0
+
+pub Keys_rise-rest : {X : Type 0} (entry : ℕ × X) (entries : List (ℕ × X)) → Keys_rise (entry ∷ entries) → Keys_rise entries
+Keys_rise-rest entry entries rise = (parts _ _ rise).1
+
+-- a value that passes a test stands at some number
+pub record Passing {X : Type 0} (p : X → Bool) (entries : List (ℕ × X)) : Type 0 where
+  pub number : ℕ
+  pub value : X
+  pub stands : at number entries ≡ Some value
+  pub passes : p value ≡ true
+
+pub Passing-any : {X : Type 0} (p : X → Bool) (entries : List (ℕ × X)) → Keys_rise entries → list_any (λ entry. p entry.1) entries ≡ true → Passing p entries
+Passing-any p [] rise any = absurd (false≢true any)
+Passing-any {X} p (entry ∷ entries) rise any = ⊎_elim first (λ later. with_first (Passing-any p entries (Keys_rise-rest entry entries rise) later)) (or_cases _ _ any)
+  where
+    first : p entry.1 ≡ true → Passing p (entry ∷ entries)
+    first passes = record { number = entry.0; value = entry.1; stands = at-first entry entries; passes = passes }
+
+    with_first : Passing p entries → Passing p (entry ∷ entries)
+    with_first found =
+        record {
+          number = found.number;
+          value = found.value;
+          stands = at-rest found.number entry entries (λ same. none-some found.value (sym (at-first_alone entry entries rise) ∙ ap (λ k. at k entries) (sym same) ∙ found.stands)) ∙ found.stands;
+          passes = found.passes;
+        }
+
+-- where no value passes a test, none that stands at a number does
+pub passes_none : {X : Type 0} (p : X → Bool) (entries : List (ℕ × X)) → list_any (λ entry. p entry.1) entries ≡ false → (n : ℕ) (x : X) → at n entries ≡ Some x → p x ≡ false
+passes_none p [] none n x is = absurd (none-some x is)
+passes_none p (entry ∷ entries) none n x is =
+    let both = or_parts (p entry.1) (list_any (λ e. p e.1) entries) none in
+    ⊎_elim
+    (λ same. subst (λ y. p y ≡ false) (same_Some entry.1 x (sym (at-first entry entries) ∙ ap (λ k. at k (entry ∷ entries)) (sym same) ∙ is)) both.0)
+    (λ other. passes_none p entries both.1 n x (sym (at-rest n entry entries other) ∙ is))
+    (cases_eq n entry.0)

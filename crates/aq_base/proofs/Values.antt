@@ -1,0 +1,34 @@
+-- When keys are the same.
+use Rattle.std.proofs.Common.{◌≡◌, true, false, [], ◌∷◌, refl, sym}
+use Rattle.std.specs.Cmp.Lexicographic.{bytes_decides}
+use Rattle.std.proofs.lemmas.Bool.{false≢true, and_parts, and_from}
+use Rattle.std.proofs.lemmas.Bool.Decides.{Decides-int_eq}
+use Rattle.aq_base.specs.Values.{Row, values_match, keys_match}
+use Rattle.aq_base.specs.declared.value.Value.{Value}
+use Rattle.aq_base.specs.declared.value.Value.TheVariants.{Null, Bool as Truth, Int, Text}
+
+values_match-sym : (a b : Value) → values_match a b ≡ true → values_match b a ≡ true
+values_match-sym Null b same = absurd (false≢true same)
+values_match-sym (Truth true) (Truth true) same = refl
+values_match-sym (Truth true) (Truth false) same = same
+values_match-sym (Truth false) (Truth true) same = same
+values_match-sym (Truth false) (Truth false) same = refl
+values_match-sym (Truth a) Null same = same
+values_match-sym (Truth a) (Int n) same = absurd (false≢true same)
+values_match-sym (Truth a) (Text t) same = absurd (false≢true same)
+values_match-sym (Int m) (Int n) same = (Decides-int_eq n m).1 (sym ((Decides-int_eq m n).0 same))
+values_match-sym (Int m) Null same = same
+values_match-sym (Int m) (Truth b) same = absurd (false≢true same)
+values_match-sym (Int m) (Text t) same = absurd (false≢true same)
+values_match-sym (Text s) (Text t) same = (bytes_decides t s).1 (sym ((bytes_decides s t).0 same))
+values_match-sym (Text s) Null same = same
+values_match-sym (Text s) (Truth b) same = absurd (false≢true same)
+values_match-sym (Text s) (Int n) same = absurd (false≢true same)
+
+pub keys_match-sym : (a b : Row) → keys_match a b ≡ true → keys_match b a ≡ true
+keys_match-sym [] [] same = refl
+keys_match-sym [] (b ∷ bs) same = same
+keys_match-sym (a ∷ as_) [] same = same
+keys_match-sym (a ∷ as_) (b ∷ bs) same =
+    let parts = and_parts _ _ same in
+    and_from _ _ (values_match-sym a b parts.0) (keys_match-sym as_ bs parts.1)

@@ -1,0 +1,53 @@
+-- The default schedule.
+use Rattle.std.proofs.Common.{◌≡◌, ℕ, zero, suc, ◌<◌, Bool, true, false, List, [], ◌∷◌, length, slice_index_or, ◌⊎◌, inl, inr, sym, ◌∙◌, refl, arith}
+use Rattle.std.specs.List.{list_all}
+use Rattle.std.proofs.lemmas.Bool.{false≢true, cases_order, and_parts, and_from, lt-ltb, not_from_false, false_from_ne_true, true_from_ne_false}
+use Rattle.aq_base.specs.Setup.{Program}
+use Rattle.aq_run.specs.States.{State, nobody, opening}
+use Rattle.aq_run.specs.Steps.{step, is_enabled}
+use Rattle.aq_run.specs.Runs.{Schedule, run_from, have_all_ended, Is_least_enabled, Goes_by_default}
+use Rattle.aq_laws.proofs.Sessions.{Can_step-enabled}
+use Rattle.aq_laws.specs.Default.{Default_schedule_is_unique}
+
+-- two sessions of which each is the least that may step
+least_is_one : (st : State) (r s : ℕ) → Is_least_enabled st r → Is_least_enabled st s → r ≡ s
+least_is_one st r s one other = by_order (cases_order r s)
+  where
+    by_order : (r ≡ s) ⊎ ((r < s) ⊎ (s < r)) → r ≡ s
+    by_order (inl same) = same
+    by_order (inr (inl below)) = absurd (false≢true (sym (other.least r below) ∙ one.enabled))
+    by_order (inr (inr above)) = absurd (false≢true (sym (one.least s above) ∙ other.enabled))
+
+-- where all have ended, none may step
+list_all_at : {X : Type 0} (p : X → Bool) (xs : List X) (n : ℕ) (d : X) → list_all p xs ≡ true → n < length xs → p (slice_index_or xs n d) ≡ true
+list_all_at p [] n d all within = absurd (omega arith)
+list_all_at p (x ∷ xs) zero d all within = (and_parts _ _ all).0
+list_all_at p (x ∷ xs) (suc n) d all within = list_all_at p xs n d (and_parts _ _ all).1 (omega arith)
+
+list_all_from : {X : Type 0} (p : X → Bool) (xs : List X) (d : X) → ((n : ℕ) → n < length xs → p (slice_index_or xs n d) ≡ true) → list_all p xs ≡ true
+list_all_from p [] d each = refl
+list_all_from p (x ∷ xs) d each = and_from _ _ (each 0 (omega arith)) (list_all_from p xs d (λ n within. each (suc n) (omega arith)))
+
+pub none_enabled : (st : State) (s : ℕ) → have_all_ended st ≡ true → is_enabled st s ≡ false
+none_enabled st s ended = false_from_ne_true _ (λ enabled.
+    let can = Can_step-enabled st s enabled in
+    false≢true (sym can.goes_on ∙ list_all_at (λ session. session.ended) st.sessions s nobody ended can.within))
+
+-- where none may step, all have ended
+pub have_all_ended-from_none : (st : State) → ((s : ℕ) → s < length st.sessions → is_enabled st s ≡ false) → have_all_ended st ≡ true
+have_all_ended-from_none st none = list_all_from (λ session. session.ended) st.sessions nobody (λ s within.
+    true_from_ne_false _ (λ goes_on. false≢true (sym (none s within) ∙ and_from _ _ (lt-ltb _ _ within) (not_from_false _ goes_on))))
+
+same_from : (program : Program) (st : State) (v w : Schedule) → Goes_by_default program st v → have_all_ended (run_from program st v) ≡ true
+    → Goes_by_default program st w → have_all_ended (run_from program st w) ≡ true → v ≡ w
+unfolding run_from Goes_by_default
+same_from program st [] [] v_goes v_ends w_goes w_ends = refl
+same_from program st [] (s ∷ w) v_goes v_ends w_goes w_ends = absurd (false≢true (sym (none_enabled st s v_ends) ∙ w_goes.0.enabled))
+same_from program st (r ∷ v) [] v_goes v_ends w_goes w_ends = absurd (false≢true (sym (none_enabled st r w_ends) ∙ v_goes.0.enabled))
+same_from program st (r ∷ v) (s ∷ w) v_goes v_ends w_goes w_ends =
+    let same = least_is_one st r s v_goes.0 w_goes.0 in
+    let rest = same_from program (step program st r) v w v_goes.1 v_ends (rw (← same) at w_goes.1) (rw (← same) at w_ends) in
+    λ i. same i ∷ rest i
+
+pub default_schedule_is_unique : Default_schedule_is_unique
+default_schedule_is_unique program v w one other = same_from program (opening program) v w one.by_default one.complete other.by_default other.complete

@@ -1,0 +1,8 @@
+pub mod Lists
+pub mod Sessions
+pub mod Events
+pub mod Finite
+pub mod Default
+pub mod Invariants
+pub mod Works
+pub mod Committed

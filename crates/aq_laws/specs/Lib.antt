@@ -1,0 +1,3 @@
+pub mod Committed
+pub mod Finite
+pub mod Default

@@ -1,0 +1,30 @@
+-- What a check that passes has found.
+use Rattle.std.proofs.Common.{◌≡◌, true, cond, ◌⊎◌, inl, inr, ⊎_elim, Some, ◌∙◌, ap}
+use Rattle.std.proofs.lemmas.Bool.{eq-eqb, cases_Bool}
+use Rattle.aq_base.specs.Values.{Row, values_at, has_no_null}
+use Rattle.aq_base.specs.Maps.{at}
+use Rattle.aq_base.specs.Databases.{Database, has_key}
+use Rattle.aq_base.specs.References.{Has_parent}
+use Rattle.aq_base.specs.Writes.{Write, Writes}
+use Rattle.aq_base.specs.Works.{Event}
+use Rattle.aq_base.specs.declared.catalog.ForeignKey.{ForeignKey}
+use Rattle.aq_base.proofs.Maps.{Keys_rise, Passing-any}
+use Rattle.aq_outcomes.specs.Faults.Fault.{Missing}
+use Rattle.aq_outcomes.specs.References.{is_live, has_parent, look_for_parent, child_check}
+use Rattle.aq_outcomes.specs.References.Checked.{Passed, Skipped, Violated}
+
+pub Has_parent-found : (f : ForeignKey) (key : Row) (view : Database) → Keys_rise view → has_parent f key view ≡ true → Has_parent f key view
+Has_parent-found f key view rise found =
+    let passing = Passing-any (has_key f.parent f.parent_cols key) view rise found in
+    record { number = passing.number; row = passing.value; stands = passing.stands; has = passing.passes }
+
+-- the check of a live event whose key has no null finds a parent, or is violated
+pub child_check-cases : (f : ForeignKey) (event : Event) (write : Write) (writes : Writes) (view : Database) → Keys_rise view → at event.row writes ≡ Some write → write.number ≡ event.write
+    → has_no_null (values_at f.child_cols event.new) ≡ true → Has_parent f (values_at f.child_cols event.new) view ⊎ (child_check f event writes view ≡ Violated (Missing f (values_at f.child_cols event.new)))
+child_check-cases f event write writes view rise written live no_null =
+    let key = values_at f.child_cols event.new in
+    ⊎_elim (λ found. inl (Has_parent-found f key view rise found)) (λ missing. inr (
+    ap (λ o. cond (is_live event o) (look_for_parent f key view) Skipped) written
+    ∙ ap (λ b. cond b (look_for_parent f key view) Skipped) (eq-eqb write.number event.write live)
+    ∙ ap (λ b. cond b (cond (has_parent f key view) Passed (Violated (Missing f key))) Passed) no_null
+    ∙ ap (λ b. cond b Passed (Violated (Missing f key))) missing)) (cases_Bool (has_parent f key view))
