@@ -1,5 +1,5 @@
 -- Elements of lists.
-use Rattle.std.proofs.Common.{◌≡◌, ℕ, zero, suc, ◌⊎◌, inl, inr, ⊎_elim, List, [], ◌∷◌, ◌++◌, length, map, slice_get, Some, None, find, cond, Contains, Bool, false, sym, ◌∙◌, refl, ap, subst, arith}
+use Rattle.std.proofs.Common.{◌≡◌, ℕ, zero, suc, ◌⊎◌, inl, inr, ⊎_elim, List, [], ◌∷◌, ◌++◌, length, map, slice_get, Some, None, find, cond, Contains, Bool, true, false, sym, ◌∙◌, refl, ap, subst, arith}
 use Rattle.std.proofs.lemmas.Option.{same_Some, none-some}
 use Rattle.std.proofs.lemmas.Bool.{cases_Bool}
 
@@ -58,11 +58,12 @@ slice_get-push_cases (z ∷ xs) y (suc n) x e = ⊎_elim (λ old. inl old) (λ n
 -- where no element passes a test, each fails it
 pub find_none : {X : Type 0} (test : X → Bool) (xs : List X) → find test xs ≡ None → (x : X) → Contains xs x → test x ≡ false
 find_none test [] none x c = absurd (Contains-none x c)
-find_none test (y ∷ xs) none x c =
-    ⊎_elim
-    (λ passes. absurd (none-some y (sym none ∙ ap (λ b. cond b (Some y) (find test xs)) passes)))
-    (λ fails. ⊎_elim
-    (λ first. subst (λ z. test z ≡ false) first fails)
-    (λ later. find_none test xs (sym (ap (λ b. cond b (Some y) (find test xs)) fails) ∙ none) x later)
-    (Contains-cons_cases y x xs c))
-    (cases_Bool (test y))
+find_none test (y ∷ xs) none x c = by_test (cases_Bool (test y)) (Contains-cons_cases y x xs c) (λ rest later. find_none test xs rest x later)
+  where
+    found : (b : Bool) → test y ≡ b → cond b (Some y) (find test xs) ≡ None
+    found b is = ap (λ b. cond b (Some y) (find test xs)) (sym is) ∙ none
+
+    by_test : (test y ≡ true) ⊎ (test y ≡ false) → (y ≡ x) ⊎ Contains xs x → (find test xs ≡ None → Contains xs x → test x ≡ false) → test x ≡ false
+    by_test (inl passes) place rest = absurd (none-some y (sym (found true passes)))
+    by_test (inr fails) (inl first) rest = subst (λ z. test z ≡ false) first fails
+    by_test (inr fails) (inr later) rest = rest (found false fails) later

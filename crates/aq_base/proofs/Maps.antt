@@ -103,9 +103,11 @@ Passing-any {X} p (entry ∷ entries) rise any = ⊎_elim first (λ later. with_
 -- where no value passes a test, none that stands at a number does
 pub passes_none : {X : Type 0} (p : X → Bool) (entries : List (ℕ × X)) → list_any (λ entry. p entry.1) entries ≡ false → (n : ℕ) (x : X) → at n entries ≡ Some x → p x ≡ false
 passes_none p [] none n x is = absurd (none-some x is)
-passes_none p (entry ∷ entries) none n x is =
-    let both = or_parts (p entry.1) (list_any (λ e. p e.1) entries) none in
-    ⊎_elim
-    (λ same. subst (λ y. p y ≡ false) (same_Some entry.1 x (sym (at-first entry entries) ∙ ap (λ k. at k (entry ∷ entries)) (sym same) ∙ is)) both.0)
-    (λ other. passes_none p entries both.1 n x (sym (at-rest n entry entries other) ∙ is))
-    (cases_eq n entry.0)
+passes_none p (entry ∷ entries) none n x is = by_key (cases_eq n entry.0) (passes_none p entries fail.1 n x)
+  where
+    fail : (p entry.1 ≡ false) × (list_any (λ e. p e.1) entries ≡ false)
+    fail = or_parts _ _ none
+
+    by_key : (n ≡ entry.0) ⊎ (n ≢ entry.0) → (at n entries ≡ Some x → p x ≡ false) → p x ≡ false
+    by_key (inl same) later = subst (λ y. p y ≡ false) (same_Some entry.1 x (sym (at-first entry entries) ∙ ap (λ k. at k (entry ∷ entries)) (sym same) ∙ is)) fail.0
+    by_key (inr other) later = later (sym (at-rest n entry entries other) ∙ is)

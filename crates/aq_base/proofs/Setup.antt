@@ -1,5 +1,5 @@
 -- What the catalog of every script has.
-use Rattle.std.proofs.Common.{◌≡◌, ℕ, ◌+◌, ⊎_elim, List, [], ◌∷◌, ◌++◌, length, Option, Some, None, slice_get, refl, sym, ap}
+use Rattle.std.proofs.Common.{◌≡◌, ℕ, ◌+◌, ◌⊎◌, inl, inr, List, [], ◌∷◌, ◌++◌, length, Option, Some, None, slice_get, refl, sym, ap}
 use Rattle.std.proofs.lemmas.Option.{none-some}
 use Rattle.aq_base.specs.Catalogs.{Catalog}
 use Rattle.aq_base.specs.Names.{Text, foreign_key_name}
@@ -46,18 +46,25 @@ keys_keep number table col (item ∷ items) cat checked =
 foreign_key_keeps : (number : ℕ) (table : Text) (col : ℕ) (name : Text) (parent : Option (ℕ × List ℕ)) (cat : Catalog) → Foreign_keys_are_checked cat
     → Foreign_keys_are_checked (adds_foreign_key number table col name parent cat)
 foreign_key_keeps number table col name None cat checked fk f stands = checked fk f stands
-foreign_key_keeps number table col name (Some parent) cat checked fk f stands =
-    ⊎_elim
-    (λ old. checked_more cat.triggers (record { table = number; ops = On_insert ∷ On_update ∷ []; does = Check (length cat.fks) }) fk f (checked fk f old))
-    (λ new. record {
-      number = length cat.triggers;
-      trigger = record { table = number; ops = On_insert ∷ On_update ∷ []; does = Check (length cat.fks) };
-      stands = slice_get-push cat.triggers (record { table = number; ops = On_insert ∷ On_update ∷ []; does = Check (length cat.fks) });
-      of_child = ap (λ k. k.child) new.1;
-      ops = refl;
-      checks = ap Check (sym new.0);
-    })
-    (slice_get-push_cases cat.fks (record { name = foreign_key_name table name; child = number; child_cols = col ∷ []; parent = parent.0; parent_cols = parent.1 }) fk f stands)
+foreign_key_keeps number table col name (Some parent) cat checked fk f stands = by_place (slice_get-push_cases cat.fks added fk f stands)
+  where
+    added : ForeignKey
+    added = record { name = foreign_key_name table name; child = number; child_cols = col ∷ []; parent = parent.0; parent_cols = parent.1 }
+
+    trigger : Trigger
+    trigger = record { table = number; ops = On_insert ∷ On_update ∷ []; does = Check (length cat.fks) }
+
+    by_place : (slice_get cat.fks fk ≡ Some f) ⊎ ((fk ≡ length cat.fks) × (added ≡ f)) → Is_checked (cat.triggers ++ trigger ∷ []) fk f
+    by_place (inl old) = checked_more cat.triggers trigger fk f (checked fk f old)
+    by_place (inr new) =
+        record {
+          number = length cat.triggers;
+          trigger = trigger;
+          stands = slice_get-push cat.triggers trigger;
+          of_child = ap (λ k. k.child) new.1;
+          ops = refl;
+          checks = ap Check (sym new.0);
+        }
 
 references_keep : (number : ℕ) (table : Text) (col : ℕ) (items : List ColumnItem) (cat : Catalog) → Foreign_keys_are_checked cat → Foreign_keys_are_checked (adds_references number table col items cat)
 references_keep number table col [] cat checked = checked

@@ -1,5 +1,5 @@
 -- Every run is finite.
-use Rattle.std.proofs.Common.{◌≡◌, ℕ, zero, suc, ◌+◌, ◌*◌, ◌<◌, ◌≤◌, true, false, cond, List, [], ◌∷◌, length, map, Option, Some, None, option_and_then, slice_get, slice_set, slice_index_or, sum_by, refl, sym, subst, ap, arith, length-append}
+use Rattle.std.proofs.Common.{◌≡◌, ℕ, zero, suc, ◌+◌, ◌*◌, ◌<◌, ◌≤◌, Bool, true, false, cond, List, [], ◌∷◌, length, map, Option, Some, None, option_and_then, slice_get, slice_set, slice_index_or, sum_by, refl, sym, subst, ap, arith, length-append}
 use Rattle.std.proofs.lemmas.List.{length-map}
 use Rattle.std.proofs.lemmas.List.Sums.{sum_by-cons}
 use Rattle.aq_base.specs.Values.{Row}
@@ -124,10 +124,19 @@ module _ (cat : Catalog) (world : World) (s : ℕ) (statements : List Bound) whe
   task_falls next (Some t) (Rounds answer ∷ below) = rounds_falls next t.work.writes t.work.opened answer below
   task_falls next transaction (Committing answer ∷ below) = omega (arith, sum_by-cons (task_steps cat) (Committing answer) below)
 
-  pub session_falls : (me : Session) → me.ended ≡ false → Falls me (task_plan cat world me (slice_get statements me.next) me.tasks)
-  session_falls me goes_on =
-      subst (λ b. Falls (record { next = me.next; transaction = me.transaction; tasks = me.tasks; ended = b }) (task_plan cat world (record { next = me.next; transaction = me.transaction; tasks = me.tasks; ended = b }) (slice_get statements me.next) me.tasks))
-      (sym goes_on) (task_falls me.next me.transaction me.tasks)
+-- the session after the step that goes on with its next statement
+abbrev after_step : Catalog → World → ℕ → Session → Option Bound → Session
+after_step cat world s me statement = (effects cat s (effects_of_plan cat (task_plan cat world me statement me.tasks)) (record { world = world; me = me })).me
+
+-- what is to be shown of a session that has ended or not
+abbrev Falls_at : Catalog → World → ℕ → List Bound → Session → Bool → Type 0
+Falls_at cat world s statements me ended =
+    let told : Session = record { next = me.next; transaction = me.transaction; tasks = me.tasks; ended = ended } in
+    session_steps cat statements (after_step cat world s told (slice_get statements me.next)) < session_steps cat statements told
+
+session_falls : (cat : Catalog) (world : World) (s : ℕ) (statements : List Bound) (me : Session) → me.ended ≡ false
+    → session_steps cat statements (after_step cat world s me (slice_get statements me.next)) < session_steps cat statements me
+session_falls cat world s statements me goes_on = subst (Falls_at cat world s statements me) (sym goes_on) (task_falls cat world s statements me.next me.transaction me.tasks)
 
 -- the statements of a session
 abbrev script_of : List (List Bound) → ℕ → List Bound
@@ -154,12 +163,10 @@ unfolding step effects_of plan_of
 steps_left-step program st s enabled =
     let can = Can_step-enabled st s enabled in
     let me = session_at st s in
-    let after = λ (statement : Option Bound).
-    (effects program.catalog s (effects_of_plan program.catalog (task_plan program.catalog st.world me statement me.tasks)) (record { world = st.world; me = me })).me in
     let falls = session_falls program.catalog st.world s (script_of program.sessions s) me can.goes_on in
-    sessions_fall program.catalog program.sessions st.sessions s (after (statement_at program s me.next)) can.within
-    (subst (λ statement. session_steps program.catalog (script_of program.sessions s) (after statement) < session_steps program.catalog (script_of program.sessions s) me)
-    (sym (statement_at_own program.sessions s me.next)) falls)
+    let own = statement_at_own program.sessions s me.next in
+    let after = after_step program.catalog st.world s me (statement_at program s me.next) in
+    sessions_fall program.catalog program.sessions st.sessions s after can.within (rw own falls)
 
 fits_within : (program : Program) (st : State) (schedule : Schedule) → Can_run_from program st schedule → length schedule ≤ steps_left program st
 unfolding Can_run_from

@@ -1,5 +1,5 @@
 -- What each kind of step does to a transaction's work.
-use Rattle.std.proofs.Common.{◌≡◌, ℕ, ◌+◌, ◌≤◌, true, false, inl, inr, ⊎_elim, List, [], ◌∷◌, ◌++◌, length, Option, Some, None, slice_get, Contains, refl, sym, ◌∙◌, ap, subst, arith, append-nil, le_of_eq}
+use Rattle.std.proofs.Common.{◌≡◌, ◌⊎◌, ℕ, ◌+◌, ◌≤◌, true, false, inl, inr, ⊎_elim, List, [], ◌∷◌, ◌++◌, length, Option, Some, None, slice_get, Contains, refl, sym, ◌∙◌, ap, subst, arith, append-nil, le_of_eq}
 use Rattle.std.proofs.lemmas.Option.{none-some, same_Some}
 use Rattle.std.specs.List.{list_any}
 use Rattle.std.proofs.lemmas.Bool.{false≢true, and_from, eq-eqb}
@@ -21,6 +21,8 @@ use Rattle.aq_base.proofs.Databases.{newest, Keys_rise-overlay, at-overlay, Adds
 use Rattle.aq_base.proofs.Setup.{Foreign_keys_are_checked}
 use Rattle.aq_outcomes.specs.Faults.Fault.{Missing}
 use Rattle.aq_outcomes.specs.Rows.{same_op, fires_on, insert_fault, insert_events}
+use Rattle.aq_outcomes.specs.References.{child_check}
+use Rattle.aq_outcomes.specs.References.Checked.{Violated}
 use Rattle.aq_outcomes.proofs.Rows.{insert_fault-none, Contains-insert_events, Is_of_change, insert_events-of_change}
 use Rattle.aq_outcomes.proofs.References.{child_check-cases}
 use Rattle.aq_run.specs.States.{World, last_of}
@@ -55,21 +57,20 @@ keys_with : (keys : List UniqueKey) (n : ℕ) (new : Stored) (before after : Dat
     → ((k : UniqueKey) → Contains keys k → k.table ≡ new.table → (q : ℕ) (stored : Stored) → at q before ≡ Some stored → has_key k.table k.cols (values_at k.cols new.values) stored ≡ false)
     → Keys_are_unique keys after
 keys_with keys n new before after adds unique free k c m q one other m_stands q_stands one_in other_in same =
-    ⊎_elim
-    (λ m_new. ⊎_elim
-    (λ q_new. m_new.0 ∙ sym q_new.0)
-    (λ q_old. absurd (clash other (sym one_in ∙ ap (λ r. r.table) m_new.1) q q_old other_in
-    (keys_match-sym (values_at k.cols new.values) (values_at k.cols other.values) (subst (λ r. keys_match (values_at k.cols r.values) (values_at k.cols other.values) ≡ true) m_new.1 same))))
-    (Adds-cases n new before after adds q other q_stands))
-    (λ m_old. ⊎_elim
-    (λ q_new. absurd (clash one (sym other_in ∙ ap (λ r. r.table) q_new.1) m m_old one_in
-    (subst (λ r. keys_match (values_at k.cols one.values) (values_at k.cols r.values) ≡ true) q_new.1 same)))
-    (λ q_old. unique k c m q one other m_old q_old one_in other_in same)
-    (Adds-cases n new before after adds q other q_stands))
-    (Adds-cases n new before after adds m one m_stands)
+    by_cases (Adds-cases n new before after adds m one m_stands) (Adds-cases n new before after adds q other q_stands)
   where
     clash : (old : Stored) → k.table ≡ new.table → (p : ℕ) → at p before ≡ Some old → old.table ≡ k.table → keys_match (values_at k.cols old.values) (values_at k.cols new.values) ≡ true → ⊥
     clash old of_table p stands in_table matches = false≢true (sym (free k c of_table p old stands) ∙ and_from _ _ (eq-eqb old.table k.table in_table) matches)
+
+    by_cases : ((m ≡ n) × (one ≡ new)) ⊎ (at m before ≡ Some one) → ((q ≡ n) × (other ≡ new)) ⊎ (at q before ≡ Some other) → m ≡ q
+    by_cases (inl m_new) (inl q_new) = m_new.0 ∙ sym q_new.0
+    by_cases (inl m_new) (inr q_old) =
+        let matches = subst (λ r. keys_match (values_at k.cols r.values) (values_at k.cols other.values) ≡ true) m_new.1 same in
+        absurd (clash other (sym one_in ∙ ap (λ r. r.table) m_new.1) q q_old other_in (keys_match-sym (values_at k.cols new.values) (values_at k.cols other.values) matches))
+    by_cases (inr m_old) (inl q_new) =
+        let matches = subst (λ r. keys_match (values_at k.cols one.values) (values_at k.cols r.values) ≡ true) q_new.1 same in
+        absurd (clash one (sym other_in ∙ ap (λ r. r.table) q_new.1) m m_old one_in matches)
+    by_cases (inr m_old) (inr q_old) = unique k c m q one other m_old q_old one_in other_in same
 
 -- a new row whose checks are queued
 references_with : (cat : Catalog) (n : ℕ) (write : Write) (new : Stored) (writes writes_after : Writes) (view view_after : Database) (events more : List Event)
@@ -77,17 +78,7 @@ references_with : (cat : Catalog) (n : ℕ) (write : Write) (new : Stored) (writ
     → ((fk : ℕ) (f : ForeignKey) → Refers cat view_after fk f n new → Check_waits cat fk n writes_after (events ++ more))
     → References_wait cat view_after writes_after (events ++ more)
 references_with cat n write new writes writes_after view view_after events more adds_write adds_row wait queued fk f row child refers =
-    ⊎_elim
-    (λ is_new. inr (subst (λ r. Check_waits cat fk r writes_after (events ++ more)) (sym is_new.0)
-    (queued fk f (record {
-      key = refers.key;
-      stands = adds_row.here;
-      in_child = ap (λ r. r.table) (sym is_new.1) ∙ refers.in_child;
-      no_null = ap (λ r. has_no_null (values_at f.child_cols r.values)) (sym is_new.1) ∙ refers.no_null;
-    }))))
-    (λ old. ⊎_elim (λ parent. inl (parent_stays parent)) (λ waits. inr (check_stays waits))
-    (wait fk f row child (record { key = refers.key; stands = old; in_child = refers.in_child; no_null = refers.no_null })))
-    (Adds-cases n new view view_after adds_row row child refers.stands)
+    by_row (Adds-cases n new view view_after adds_row row child refers.stands)
   where
     parent_stays : Has_parent f (values_at f.child_cols child.values) view → Has_parent f (values_at f.child_cols child.values) view_after
     parent_stays parent = record { number = parent.number; row = parent.row; stands = Adds-kept n new view view_after adds_row parent.number parent.row parent.stands; has = parent.has }
@@ -106,6 +97,24 @@ references_with cat n write new writes writes_after view view_after events more 
           live = waits.live;
         }
 
+    stays : Has_parent f (values_at f.child_cols child.values) view ⊎ Check_waits cat fk row writes events
+        → Has_parent f (values_at f.child_cols child.values) view_after ⊎ Check_waits cat fk row writes_after (events ++ more)
+    stays (inl parent) = inl (parent_stays parent)
+    stays (inr waits) = inr (check_stays waits)
+
+    new_refers : child ≡ new → Refers cat view_after fk f n new
+    new_refers same =
+        record {
+          key = refers.key;
+          stands = adds_row.here;
+          in_child = ap (λ r. r.table) (sym same) ∙ refers.in_child;
+          no_null = ap (λ r. has_no_null (values_at f.child_cols r.values)) (sym same) ∙ refers.no_null;
+        }
+
+    by_row : ((row ≡ n) × (child ≡ new)) ⊎ (at row view ≡ Some child) → Has_parent f (values_at f.child_cols child.values) view_after ⊎ Check_waits cat fk row writes_after (events ++ more)
+    by_row (inl is_new) = inr (subst (λ r. Check_waits cat fk r writes_after (events ++ more)) (sym is_new.0) (queued fk f (new_refers is_new.1)))
+    by_row (inr old) = stays (wait fk f row child (record { key = refers.key; stands = old; in_child = refers.in_child; no_null = refers.no_null }))
+
 -- the new row's events among those that wait
 check_is_queued : (cat : Catalog) (table row number : ℕ) (values : Row) (commit : ℕ) (writes_after : Writes) (view_after : Database) (events : List Event)
     → Foreign_keys_are_checked cat → at row writes_after ≡ Some (record { table = table; image = values; number = number })
@@ -114,8 +123,8 @@ check_is_queued : (cat : Catalog) (table row number : ℕ) (values : Row) (commi
 check_is_queued cat table row number values commit writes_after view_after events checked written fk f refers =
     let check = checked fk f refers.key in
     let event : Event = record { trigger = check.number; row = row; write = number; new = values } in
-    let fires : fires_on table Insert check.trigger ≡ true =
-    and_from _ _ (eq-eqb check.trigger.table table (check.of_child ∙ sym refers.in_child)) (ap (list_any (same_op Insert)) check.ops) in
+    let of_table = check.of_child ∙ sym refers.in_child in
+    let fires : fires_on table Insert check.trigger ≡ true = and_from _ _ (eq-eqb check.trigger.table table of_table) (ap (list_any (same_op Insert)) check.ops) in
     record {
       event = event;
       waits = Contains-append_right events (insert_events cat table row number values) event (Contains-insert_events cat table row number values check.number check.trigger check.stands fires);
@@ -133,38 +142,35 @@ events_fit : (cat : Catalog) (table row number : ℕ) (values : Row) (writes wri
     → Adds row (record { table = table; image = values; number = number }) writes writes_after → ((event : Event) → Contains events event → Event_fits writes event)
     → (event : Event) → Contains (events ++ insert_events cat table row number values) event → Event_fits writes_after event
 events_fit cat table row number values writes writes_after events adds fit event c =
-    ⊎_elim old new (Contains-append_cases events (insert_events cat table row number values) event c)
+    by_place (Contains-append_cases events (insert_events cat table row number values) event c)
   where
     write : Write
     write = record { table = table; image = values; number = number }
 
     kept : Event_fits writes event → Event_fits writes_after event
-    kept is =
-        record { write = is.write; written = Adds-kept row (record { table = table; image = values; number = number }) writes writes_after adds event.row is.write is.written; not_older = is.not_older; image = is.image }
-
-    old : Contains events event → Event_fits writes_after event
-    old c = kept (fit event c)
+    kept is = record { write = is.write; written = Adds-kept row write writes writes_after adds event.row is.write is.written; not_older = is.not_older; image = is.image }
 
     of_change : Is_of_change row number values event → Event_fits writes_after event
     of_change is =
         record {
-          write = record { table = table; image = values; number = number };
+          write = write;
           written = ap (λ r. at r writes_after) is.of_row ∙ adds.here;
           not_older = le_of_eq is.of_write;
           image = λ same. sym is.image;
         }
 
-    new : Contains (insert_events cat table row number values) event → Event_fits writes_after event
-    new c = of_change (insert_events-of_change cat table row number values event c)
+    by_place : Contains events event ⊎ Contains (insert_events cat table row number values) event → Event_fits writes_after event
+    by_place (inl old) = kept (fit event old)
+    by_place (inr new) = of_change (insert_events-of_change cat table row number values event new)
 
 -- the numbers of the new row
 drawn_with : (rows numbers : ℕ) (write : Write) (writes after : Writes) → write.number ≡ numbers + 1 → Adds (rows + 1) write writes after
     → ((r : ℕ) (w : Write) → at r writes ≡ Some w → Drawn rows numbers r w) → (r : ℕ) (w : Write) → at r after ≡ Some w → Drawn (rows + 1) (numbers + 1) r w
-drawn_with rows numbers write writes after number adds drawn r w is =
-    ⊎_elim
-    (λ new. record { row_drawn = le_of_eq new.0; number_drawn = le_of_eq (ap (λ x. x.number) new.1 ∙ number) })
-    (λ old. let before = drawn r w old in record { row_drawn = omega arith; number_drawn = omega arith })
-    (Adds-cases (rows + 1) write writes after adds r w is)
+drawn_with rows numbers write writes after number adds drawn r w is = by_row (Adds-cases (rows + 1) write writes after adds r w is)
+  where
+    by_row : ((r ≡ rows + 1) × (w ≡ write)) ⊎ (at r writes ≡ Some w) → Drawn (rows + 1) (numbers + 1) r w
+    by_row (inl new) = record { row_drawn = le_of_eq new.0; number_drawn = le_of_eq (ap (λ x. x.number) new.1 ∙ number) }
+    by_row (inr old) = let before = drawn r w old in record { row_drawn = omega arith; number_drawn = omega arith }
 
 -- a row that isn't refused, with its events
 pub inserts : (cat : Catalog) (history : List Database) (rows numbers : ℕ) (writes : Writes) (events : List Event) (table : ℕ) (values : Row)
@@ -214,21 +220,44 @@ now_checked : (cat : Catalog) (world : World) (work : Work) (event : Event) (eve
     → (waits : Check_waits cat fk row work.writes events) → event ≡ waits.event
     → Has_parent f (values_at f.child_cols child.values) (view_of world.history work.writes)
 now_checked cat world work event events rise stands c done fk f row child refers waits same =
-    let commit = length world.history in
-    let view = view_of world.history work.writes in
-    let fits = stands.fit event c in
-    let of_row : event.row ≡ row = ap (λ e. e.row) same ∙ waits.of_row in
-    let write_is : fits.write ≡ waits.write = same_Some fits.write waits.write (sym fits.written ∙ ap (λ r. at r work.writes) of_row ∙ waits.written) in
-    let live : fits.write.number ≡ event.write = ap (λ w. w.number) write_is ∙ waits.live ∙ ap (λ e. e.write) (sym same) in
-    let stored : Some child ≡ Some (stored_by commit fits.write) =
-    sym refers.stands ∙ at-overlay commit work.writes (last_of world.history) row stands.rise ∙ ap (λ w. newest commit w (at row (last_of world.history))) (sym (ap (λ r. at r work.writes) of_row) ∙ fits.written) in
-    let image : child.values ≡ event.new = ap (λ r. r.values) (same_Some child (stored_by commit fits.write) stored) ∙ fits.image live in
-    let plan = event_plan-check cat world work event waits.trigger fk f (ap (λ e. slice_get cat.triggers e.trigger) same ∙ waits.of_trigger) waits.checks refers.key in
-    ⊎_elim
-    (λ parent. subst (λ values. Has_parent f (values_at f.child_cols values) view) (sym image) parent)
-    (λ violated. let never : Does_all (Finishes ∷ []) ≡ Fails (Missing f (values_at f.child_cols event.new)) = sym done ∙ plan ∙ ap check_plan violated in absurd (cc))
-    (child_check-cases f event fits.write work.writes view (Keys_rise-overlay commit work.writes (last_of world.history) rise) fits.written live
-    (ap (λ values. has_no_null (values_at f.child_cols values)) (sym image) ∙ refers.no_null))
+    by_check (child_check-cases f event fits.write work.writes view (Keys_rise-overlay commit work.writes (last_of world.history) rise) fits.written live no_null)
+  where
+    commit : ℕ
+    commit = length world.history
+
+    view : Database
+    view = view_of world.history work.writes
+
+    fits : Event_fits work.writes event
+    fits = stands.fit event c
+
+    of_row : at event.row work.writes ≡ at row work.writes
+    of_row = ap (λ e. at e.row work.writes) same ∙ ap (λ r. at r work.writes) waits.of_row
+
+    live : fits.write.number ≡ event.write
+    live = ap (λ w. w.number) (same_Some fits.write waits.write (sym fits.written ∙ of_row ∙ waits.written)) ∙ waits.live ∙ ap (λ e. e.write) (sym same)
+
+    stored : child ≡ stored_by commit fits.write
+    stored =
+        let seen = at-overlay commit work.writes (last_of world.history) row stands.rise in
+        let newest_is = ap (λ w. newest commit w (at row (last_of world.history))) (sym of_row ∙ fits.written) in
+        same_Some child (stored_by commit fits.write) (sym refers.stands ∙ seen ∙ newest_is)
+
+    image : child.values ≡ event.new
+    image = ap (λ r. r.values) stored ∙ fits.image live
+
+    no_null : has_no_null (values_at f.child_cols event.new) ≡ true
+    no_null = ap (λ values. has_no_null (values_at f.child_cols values)) (sym image) ∙ refers.no_null
+
+    plan : event_plan cat world work event ≡ check_plan (child_check f event work.writes view)
+    plan = event_plan-check cat world work event waits.trigger fk f (ap (λ e. slice_get cat.triggers e.trigger) same ∙ waits.of_trigger) waits.checks refers.key
+
+    by_check : Has_parent f (values_at f.child_cols event.new) view ⊎ (child_check f event work.writes view ≡ Violated (Missing f (values_at f.child_cols event.new)))
+        → Has_parent f (values_at f.child_cols child.values) view
+    by_check (inl parent) = subst (λ values. Has_parent f (values_at f.child_cols values) view) (sym image) parent
+    by_check (inr violated) =
+        let refused : Does_all (Finishes ∷ []) ≡ Fails (Missing f (values_at f.child_cols event.new)) = sym done ∙ plan ∙ ap check_plan violated in
+        absurd (cc)
 
 -- an event that is done was no check, or its row has a parent now
 pub finishes : (cat : Catalog) (world : World) (work : Work) (event : Event) (events : List Event)
@@ -244,14 +273,15 @@ finishes cat world work event events rise stands done =
       fit = λ other c. stands.fit other (Contains-later event other events c);
     }
   where
+    still : (fk : ℕ) (f : ForeignKey) (row : ℕ) (child : Stored) → Refers cat (view_of world.history work.writes) fk f row child
+        → (waits : Check_waits cat fk row work.writes (event ∷ events)) → (event ≡ waits.event) ⊎ Contains events waits.event
+        → Has_parent f (values_at f.child_cols child.values) (view_of world.history work.writes) ⊎ Check_waits cat fk row work.writes events
+    still fk f row child refers waits (inl first) = inl (now_checked cat world work event (event ∷ events) rise stands (Contains-first event events) done fk f row child refers waits first)
+    still fk f row child refers waits (inr later) = inr (waits_among cat fk row work.writes (event ∷ events) events waits later)
+
     references : References_wait cat (view_of world.history work.writes) work.writes events
     references fk f row child refers =
-        ⊎_elim inl
-        (λ waits. ⊎_elim
-        (λ first. inl (now_checked cat world work event (event ∷ events) rise stands (Contains-first event events) done fk f row child refers waits first))
-        (λ later. inr (waits_among cat fk row work.writes (event ∷ events) events waits later))
-        (Contains-cons_cases event waits.event events waits.waits))
-        (stands.references fk f row child refers)
+        ⊎_elim (λ parent. inl parent) (λ waits. still fk f row child refers waits (Contains-cons_cases event waits.event events waits.waits)) (stands.references fk f row child refers)
 
 -- ---- commit
 

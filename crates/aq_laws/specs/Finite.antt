@@ -1,4 +1,4 @@
--- How many steps a run may still take.
+-- Every run is finite: a number that each step makes smaller.
 use Rattle.std.specs.Prelude.{ℕ, ◌+◌, ◌*◌, ◌≤◌, Bool, true, false, List, [], ◌∷◌, length, drop, Option, Some, None, sum_by}
 use Rattle.aq_base.specs.Catalogs.{Catalog}
 use Rattle.aq_base.specs.Works.{Opened}
@@ -9,7 +9,7 @@ use Rattle.aq_run.specs.States.{Task, Transaction, Session, State, opening}
 use Rattle.aq_run.specs.States.Task.{Rows, Rounds, Committing}
 use Rattle.aq_run.specs.Runs.{Schedule, Is_schedule}
 
--- Each number is a bound: of the steps that are still to come because of the thing.
+-- Each number bounds the steps that are still to come because of what it is said of.
 
 -- a row to be inserted: its own step, and two for each trigger whose event it may queue
 abbrev pub row_steps : Catalog → ℕ
@@ -19,7 +19,7 @@ row_steps cat = 1 + 2 * length cat.triggers
 abbrev pub statement_steps : Catalog → Bound → ℕ
 statement_steps cat (InsertRows table rows) = 4 + length rows * row_steps cat
 
--- what is in progress
+-- what is in progress: the rows that are left, and of the end of the rows, the close of the level and the commit those that are to come
 abbrev pub task_steps : Catalog → Task → ℕ
 task_steps cat (Rows operation left done) = 3 + length left * row_steps cat
 task_steps cat (Rounds answer) = 2
@@ -29,6 +29,7 @@ task_steps cat (Committing answer) = 1
 abbrev pub level_steps : Opened → ℕ
 level_steps level = 2 * length level.queued + length level.round
 
+-- the events of all levels
 abbrev pub transaction_steps : Option Transaction → ℕ
 transaction_steps None = 0
 transaction_steps (Some t) = sum_by level_steps t.work.opened
@@ -49,9 +50,10 @@ sessions_steps cat scripts [] = 0
 sessions_steps cat [] (me ∷ others) = session_steps cat [] me + sessions_steps cat [] others
 sessions_steps cat (statements ∷ scripts) (me ∷ others) = session_steps cat statements me + sessions_steps cat scripts others
 
+-- how many steps a state has left at the most
 abbrev pub steps_left : Program → State → ℕ
 steps_left program st = sessions_steps program.catalog program.sessions st.sessions
 
--- a schedule that can be run is no longer than the steps that the first state has left
+-- no schedule that can be run is longer than the number of the first state
 abbrev pub Runs_are_finite : Type 0
 Runs_are_finite = (program : Program) (schedule : Schedule) → Is_schedule program schedule → length schedule ≤ steps_left program (opening program)

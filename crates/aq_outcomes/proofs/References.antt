@@ -1,5 +1,5 @@
 -- What a check that passes has found.
-use Rattle.std.proofs.Common.{◌≡◌, true, cond, ◌⊎◌, inl, inr, ⊎_elim, Some, ◌∙◌, ap}
+use Rattle.std.proofs.Common.{◌≡◌, true, false, cond, ◌⊎◌, inl, inr, Some, ◌∙◌, ap}
 use Rattle.std.proofs.lemmas.Bool.{eq-eqb, cases_Bool}
 use Rattle.aq_base.specs.Values.{Row, values_at, has_no_null}
 use Rattle.aq_base.specs.Maps.{at}
@@ -21,10 +21,17 @@ Has_parent-found f key view rise found =
 -- the check of a live event whose key has no null finds a parent, or is violated
 pub child_check-cases : (f : ForeignKey) (event : Event) (write : Write) (writes : Writes) (view : Database) → Keys_rise view → at event.row writes ≡ Some write → write.number ≡ event.write
     → has_no_null (values_at f.child_cols event.new) ≡ true → Has_parent f (values_at f.child_cols event.new) view ⊎ (child_check f event writes view ≡ Violated (Missing f (values_at f.child_cols event.new)))
-child_check-cases f event write writes view rise written live no_null =
-    let key = values_at f.child_cols event.new in
-    ⊎_elim (λ found. inl (Has_parent-found f key view rise found)) (λ missing. inr (
-    ap (λ o. cond (is_live event o) (look_for_parent f key view) Skipped) written
-    ∙ ap (λ b. cond b (look_for_parent f key view) Skipped) (eq-eqb write.number event.write live)
-    ∙ ap (λ b. cond b (cond (has_parent f key view) Passed (Violated (Missing f key))) Passed) no_null
-    ∙ ap (λ b. cond b Passed (Violated (Missing f key))) missing)) (cases_Bool (has_parent f key view))
+child_check-cases f event write writes view rise written live no_null = by_test (cases_Bool (has_parent f key view))
+  where
+    key : Row
+    key = values_at f.child_cols event.new
+
+    looks : child_check f event writes view ≡ look_for_parent f key view
+    looks = ap (λ o. cond (is_live event o) (look_for_parent f key view) Skipped) written ∙ ap (λ b. cond b (look_for_parent f key view) Skipped) (eq-eqb write.number event.write live)
+
+    finds : look_for_parent f key view ≡ cond (has_parent f key view) Passed (Violated (Missing f key))
+    finds = ap (λ b. cond b (cond (has_parent f key view) Passed (Violated (Missing f key))) Passed) no_null
+
+    by_test : (has_parent f key view ≡ true) ⊎ (has_parent f key view ≡ false) → Has_parent f key view ⊎ (child_check f event writes view ≡ Violated (Missing f key))
+    by_test (inl found) = inl (Has_parent-found f key view rise found)
+    by_test (inr missing) = inr (looks ∙ finds ∙ ap (λ b. cond b Passed (Violated (Missing f key))) missing)
