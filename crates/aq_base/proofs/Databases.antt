@@ -4,20 +4,20 @@ use Rattle.std.proofs.lemmas.Bool.{cases_eq}
 use Rattle.aq_base.specs.Maps.{at, with_at}
 use Rattle.aq_base.specs.Databases.{Database, Stored}
 use Rattle.aq_base.specs.Writes.{Write, Writes, stored_by, overlay}
-use Rattle.aq_base.proofs.Maps.{Keys_rise, Adds, at-first, at-rest, at-first_alone, at-with_at_same, at-with_at_other, Keys_rise-rest, Keys_rise-with_at, Adds-with_at}
+use Rattle.aq_base.proofs.Maps.{KeysRise, Adds, at-first, at-rest, at-first_alone, at-with_at_same, at-with_at_other, KeysRise-rest, KeysRise-with_at, Adds-with_at}
 
 -- the written version of a row, or the one that it had
 abbrev pub newest : ℕ → Option Write → Option Stored → Option Stored
 newest commit None had = had
 newest commit (Some write) had = Some (stored_by commit write)
 
-pub Keys_rise-overlay : (commit : ℕ) (writes : Writes) (db : Database) → Keys_rise db → Keys_rise (overlay commit writes db)
-Keys_rise-overlay commit [] db rise = rise
-Keys_rise-overlay commit (entry ∷ writes) db rise = Keys_rise-overlay commit writes (with_at entry.0 (stored_by commit entry.1) db) (Keys_rise-with_at entry.0 (stored_by commit entry.1) db rise)
+pub KeysRise-overlay : (commit : ℕ) (writes : Writes) (db : Database) → KeysRise db → KeysRise (overlay commit writes db)
+KeysRise-overlay commit [] db rise = rise
+KeysRise-overlay commit (entry ∷ writes) db rise = KeysRise-overlay commit writes (with_at entry.0 (stored_by commit entry.1) db) (KeysRise-with_at entry.0 (stored_by commit entry.1) db rise)
 
-pub at-overlay : (commit : ℕ) (writes : Writes) (db : Database) (q : ℕ) → Keys_rise writes → at q (overlay commit writes db) ≡ newest commit (at q writes) (at q db)
+pub at-overlay : (commit : ℕ) (writes : Writes) (db : Database) (q : ℕ) → KeysRise writes → at q (overlay commit writes db) ≡ newest commit (at q writes) (at q db)
 at-overlay commit [] db q rise = refl
-at-overlay commit (entry ∷ writes) db q rise = by_key (cases_eq q entry.0) (at-overlay commit writes with_first q (Keys_rise-rest entry writes rise))
+at-overlay commit (entry ∷ writes) db q rise = by_key (cases_eq q entry.0) (at-overlay commit writes with_first q (KeysRise-rest entry writes rise))
   where
     with_first : Database
     with_first = with_at entry.0 (stored_by commit entry.1) db
@@ -34,10 +34,10 @@ at-overlay commit (entry ∷ writes) db q rise = by_key (cases_eq q entry.0) (at
         rest ∙ ap (newest commit (at q writes)) stays ∙ sym (ap (λ w. newest commit w (at q db)) (at-rest q entry writes other))
 
 -- a new row of the writes is a new row of what the transaction sees
-pub Adds-overlay : (commit n : ℕ) (write : Write) (writes : Writes) (db : Database) → Keys_rise writes → at n writes ≡ None → at n db ≡ None
+pub Adds-overlay : (commit n : ℕ) (write : Write) (writes : Writes) (db : Database) → KeysRise writes → at n writes ≡ None → at n db ≡ None
     → Adds n (stored_by commit write) (overlay commit writes db) (overlay commit (with_at n write writes) db)
 Adds-overlay commit n write writes db rise unwritten absent =
-    let rise_after = Keys_rise-with_at n write writes rise in
+    let rise_after = KeysRise-with_at n write writes rise in
     let placed = Adds-with_at n write writes unwritten in
     let before = at-overlay commit writes db in
     let after = at-overlay commit (with_at n write writes) db in

@@ -18,7 +18,7 @@ use Rattle.aq_base.specs.declared.script.Script.{Script}
 use Rattle.aq_base.proofs.Lists.{slice_get-append, slice_get-push, slice_get-push_cases}
 
 -- the foreign key with a number has a trigger that checks each new row and each changed one of its child table
-pub record Is_checked (triggers : List Trigger) (fk : ℕ) (f : ForeignKey) : Type 0 where
+pub record IsChecked (triggers : List Trigger) (fk : ℕ) (f : ForeignKey) : Type 0 where
   pub number : ℕ
   pub trigger : Trigger
   pub stands : slice_get triggers number ≡ Some trigger
@@ -26,25 +26,25 @@ pub record Is_checked (triggers : List Trigger) (fk : ℕ) (f : ForeignKey) : Ty
   pub ops : trigger.ops ≡ On_insert ∷ On_update ∷ []
   pub checks : trigger.does ≡ Check fk
 
-abbrev pub Foreign_keys_are_checked : Catalog → Type 0
-Foreign_keys_are_checked cat = (fk : ℕ) (f : ForeignKey) → slice_get cat.fks fk ≡ Some f → Is_checked cat.triggers fk f
+abbrev pub ForeignKeysAreChecked : Catalog → Type 0
+ForeignKeysAreChecked cat = (fk : ℕ) (f : ForeignKey) → slice_get cat.fks fk ≡ Some f → IsChecked cat.triggers fk f
 
-checked_more : (triggers : List Trigger) (more : Trigger) (fk : ℕ) (f : ForeignKey) → Is_checked triggers fk f → Is_checked (triggers ++ more ∷ []) fk f
+checked_more : (triggers : List Trigger) (more : Trigger) (fk : ℕ) (f : ForeignKey) → IsChecked triggers fk f → IsChecked (triggers ++ more ∷ []) fk f
 checked_more triggers more fk f is =
     record { number = is.number; trigger = is.trigger; stands = slice_get-append triggers (more ∷ []) is.number is.trigger is.stands; of_child = is.of_child; ops = is.ops; checks = is.checks }
 
-keys_keep : (number : ℕ) (table : Text) (col : ℕ) (items : List ColumnItem) (cat : Catalog) → Foreign_keys_are_checked cat → Foreign_keys_are_checked (adds_keys number table col items cat)
+keys_keep : (number : ℕ) (table : Text) (col : ℕ) (items : List ColumnItem) (cat : Catalog) → ForeignKeysAreChecked cat → ForeignKeysAreChecked (adds_keys number table col items cat)
 keys_keep number table col [] cat checked = checked
 keys_keep number table col (item ∷ items) cat checked =
     keys_keep number table (col + 1) items (adds_key number table col item.constraint cat) (key_keeps item.constraint)
   where
-    key_keeps : (constraint : Option ColumnConstraint) → Foreign_keys_are_checked (adds_key number table col constraint cat)
+    key_keeps : (constraint : Option ColumnConstraint) → ForeignKeysAreChecked (adds_key number table col constraint cat)
     key_keeps None = checked
     key_keeps (Some PrimaryKey) = checked
     key_keeps (Some (References parent)) = checked
 
-foreign_key_keeps : (number : ℕ) (table : Text) (col : ℕ) (name : Text) (parent : Option (ℕ × List ℕ)) (cat : Catalog) → Foreign_keys_are_checked cat
-    → Foreign_keys_are_checked (adds_foreign_key number table col name parent cat)
+foreign_key_keeps : (number : ℕ) (table : Text) (col : ℕ) (name : Text) (parent : Option (ℕ × List ℕ)) (cat : Catalog) → ForeignKeysAreChecked cat
+    → ForeignKeysAreChecked (adds_foreign_key number table col name parent cat)
 foreign_key_keeps number table col name None cat checked fk f stands = checked fk f stands
 foreign_key_keeps number table col name (Some parent) cat checked fk f stands = by_place (slice_get-push_cases cat.fks added fk f stands)
   where
@@ -54,7 +54,7 @@ foreign_key_keeps number table col name (Some parent) cat checked fk f stands = 
     trigger : Trigger
     trigger = record { table = number; ops = On_insert ∷ On_update ∷ []; does = Check (length cat.fks) }
 
-    by_place : (slice_get cat.fks fk ≡ Some f) ⊎ ((fk ≡ length cat.fks) × (added ≡ f)) → Is_checked (cat.triggers ++ trigger ∷ []) fk f
+    by_place : (slice_get cat.fks fk ≡ Some f) ⊎ ((fk ≡ length cat.fks) × (added ≡ f)) → IsChecked (cat.triggers ++ trigger ∷ []) fk f
     by_place (inl old) = checked_more cat.triggers trigger fk f (checked fk f old)
     by_place (inr new) =
         record {
@@ -66,24 +66,24 @@ foreign_key_keeps number table col name (Some parent) cat checked fk f stands = 
           checks = ap Check (sym new.0);
         }
 
-references_keep : (number : ℕ) (table : Text) (col : ℕ) (items : List ColumnItem) (cat : Catalog) → Foreign_keys_are_checked cat → Foreign_keys_are_checked (adds_references number table col items cat)
+references_keep : (number : ℕ) (table : Text) (col : ℕ) (items : List ColumnItem) (cat : Catalog) → ForeignKeysAreChecked cat → ForeignKeysAreChecked (adds_references number table col items cat)
 references_keep number table col [] cat checked = checked
 references_keep number table col (item ∷ items) cat checked =
     references_keep number table (col + 1) items (adds_reference number table col item.name item.constraint cat) (reference_keeps item.constraint)
   where
-    reference_keeps : (constraint : Option ColumnConstraint) → Foreign_keys_are_checked (adds_reference number table col item.name constraint cat)
+    reference_keeps : (constraint : Option ColumnConstraint) → ForeignKeysAreChecked (adds_reference number table col item.name constraint cat)
     reference_keeps None = checked
     reference_keeps (Some PrimaryKey) = checked
     reference_keeps (Some (References parent)) = foreign_key_keeps number table col item.name (referred parent cat) cat checked
 
-statement_keeps : (statement : Statement) (cat : Catalog) → Foreign_keys_are_checked cat → Foreign_keys_are_checked (defines statement cat)
+statement_keeps : (statement : Statement) (cat : Catalog) → ForeignKeysAreChecked cat → ForeignKeysAreChecked (defines statement cat)
 statement_keeps (CreateTable table items) cat checked =
     references_keep (length cat.tables) table 0 items (adds_keys (length cat.tables) table 0 items (adds_table table items cat)) (keys_keep (length cat.tables) table 0 items (adds_table table items cat) checked)
 statement_keeps (Insert table rows) cat checked = checked
 
-setup_keeps : (cat : Catalog) (setup : List Placed) → Foreign_keys_are_checked cat → Foreign_keys_are_checked (setup_from cat setup)
+setup_keeps : (cat : Catalog) (setup : List Placed) → ForeignKeysAreChecked cat → ForeignKeysAreChecked (setup_from cat setup)
 setup_keeps cat [] checked = checked
 setup_keeps cat (placed ∷ others) checked = setup_keeps (defines placed.statement cat) others (statement_keeps placed.statement cat checked)
 
-pub Foreign_keys_are_checked-catalog_of : (script : Script) → Foreign_keys_are_checked (catalog_of script)
-Foreign_keys_are_checked-catalog_of script = setup_keeps no_tables script.setup (λ fk f stands. absurd (none-some f stands))
+pub ForeignKeysAreChecked-catalog_of : (script : Script) → ForeignKeysAreChecked (catalog_of script)
+ForeignKeysAreChecked-catalog_of script = setup_keeps no_tables script.setup (λ fk f stands. absurd (none-some f stands))

@@ -14,26 +14,26 @@ use Rattle.aq_run.specs.Steps.{Plan, event_plan, on_trigger, on_fk, check_plan}
 use Rattle.aq_run.specs.Steps.Plan.{Does_all, Fails}
 
 -- the event is done, or a fault ends its transaction
-pub data Ends_event : Plan → Type 0 where
-  Done : Ends_event (Does_all (Finishes ∷ []))
-  Refused : (fault : Fault) → Ends_event (Fails fault)
+pub data EndsEvent : Plan → Type 0 where
+  Done : EndsEvent (Does_all (Finishes ∷ []))
+  Refused : (fault : Fault) → EndsEvent (Fails fault)
 
-ends_check : (checked : Checked) → Ends_event (check_plan checked)
+ends_check : (checked : Checked) → EndsEvent (check_plan checked)
 ends_check Passed = Done
 ends_check Skipped = Done
 ends_check (Violated fault) = Refused fault
 
-ends_fk : (world : World) (work : Work) (event : Event) (fk : Option ForeignKey) → Ends_event (on_fk world work event fk)
+ends_fk : (world : World) (work : Work) (event : Event) (fk : Option ForeignKey) → EndsEvent (on_fk world work event fk)
 ends_fk world work event None = Done
 ends_fk world work event (Some fk) = ends_check (child_check fk event work.writes (latest_view world work))
 
-ends_trigger : (cat : Catalog) (world : World) (work : Work) (event : Event) (trigger : Option Trigger) → Ends_event (on_trigger cat world work event trigger)
+ends_trigger : (cat : Catalog) (world : World) (work : Work) (event : Event) (trigger : Option Trigger) → EndsEvent (on_trigger cat world work event trigger)
 ends_trigger cat world work event None = Done
 ends_trigger cat world work event (Some trigger) =
-    elim trigger.does as (λ d. Ends_event (on_trigger cat world work event (Some (record trigger { does = d })))) [ Check n ↦ ends_fk world work event (slice_get cat.fks n) ]
+    elim trigger.does as (λ d. EndsEvent (on_trigger cat world work event (Some (record trigger { does = d })))) [ Check n ↦ ends_fk world work event (slice_get cat.fks n) ]
 
-pub Ends_event-event_plan : (cat : Catalog) (world : World) (work : Work) (event : Event) → Ends_event (event_plan cat world work event)
-Ends_event-event_plan cat world work event = ends_trigger cat world work event (slice_get cat.triggers event.trigger)
+pub EndsEvent-event_plan : (cat : Catalog) (world : World) (work : Work) (event : Event) → EndsEvent (event_plan cat world work event)
+EndsEvent-event_plan cat world work event = ends_trigger cat world work event (slice_get cat.triggers event.trigger)
 
 -- the event of a trigger that checks a foreign key
 pub event_plan-check : (cat : Catalog) (world : World) (work : Work) (event : Event) (trigger : Trigger) (fk : ℕ) (f : ForeignKey)

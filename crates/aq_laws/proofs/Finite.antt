@@ -21,12 +21,12 @@ use Rattle.aq_run.specs.States.Task.{Rows, Rounds, Committing}
 use Rattle.aq_run.specs.Effects.{on_top, with_events, effect, effects}
 use Rattle.aq_run.specs.Steps.{Plan, dropped, answer_of, statement_at, task_plan, start_plan, rows_plan, insert_plan, on_level, level_plan, event_plan, effects_of_plan, effects_of, plan_of, step, is_enabled}
 use Rattle.aq_run.specs.Steps.Plan.{Fails}
-use Rattle.aq_run.specs.Runs.{Schedule, Can_run_from}
-use Rattle.aq_laws.specs.Finite.{row_steps, statement_steps, task_steps, level_steps, session_steps, sessions_steps, steps_left, Runs_are_finite}
+use Rattle.aq_run.specs.Runs.{Schedule, CanRunFrom}
+use Rattle.aq_laws.specs.Finite.{row_steps, statement_steps, task_steps, level_steps, session_steps, sessions_steps, steps_left, RunsAreFinite}
 use Rattle.aq_laws.proofs.Lists.{sum_by-drop}
-use Rattle.aq_laws.proofs.Events.{Ends_event, Ends_event-event_plan}
-use Rattle.aq_laws.proofs.Events.Ends_event.{Done, Refused}
-use Rattle.aq_laws.proofs.Sessions.{Can_step-enabled}
+use Rattle.aq_laws.proofs.Events.{EndsEvent, EndsEvent-event_plan}
+use Rattle.aq_laws.proofs.Events.EndsEvent.{Done, Refused}
+use Rattle.aq_laws.proofs.Sessions.{CanStep-enabled}
 
 -- a change queues no more events than there are triggers
 length_firing : (number table : ℕ) (op : Op) (triggers : List Trigger) → length (firing_from number table op triggers) ≤ length triggers
@@ -90,7 +90,7 @@ module _ (cat : Catalog) (world : World) (s : ℕ) (statements : List Bound) whe
       insert_falls next t table values left count below (insert_fault cat (latest_view world t.work) table values)
 
   ended_event_falls : (next : ℕ) (writes : Writes) (queued round : List Event) (event : Event) (levels : List Opened) (task : Task) (below : List Task) (plan : Plan)
-      → Ends_event plan → Falls (going next (Some (record { work = record { writes = writes; opened = record { queued = queued; round = event ∷ round } ∷ levels } })) (task ∷ below)) plan
+      → EndsEvent plan → Falls (going next (Some (record { work = record { writes = writes; opened = record { queued = queued; round = event ∷ round } ∷ levels } })) (task ∷ below)) plan
   unfolding effect
   ended_event_falls next writes queued round event levels task below plan Done =
       omega (arith, sum_by-cons level_steps (record { queued = queued; round = event ∷ round }) levels, sum_by-cons level_steps (record { queued = queued; round = round }) levels)
@@ -104,7 +104,7 @@ module _ (cat : Catalog) (world : World) (s : ℕ) (statements : List Bound) whe
   level_falls next writes queued (event ∷ round) levels answer below =
       ended_event_falls next writes queued round event levels (Rounds answer) below
       (event_plan cat world (record { writes = writes; opened = record { queued = queued; round = event ∷ round } ∷ levels }) event)
-      (Ends_event-event_plan cat world (record { writes = writes; opened = record { queued = queued; round = event ∷ round } ∷ levels }) event)
+      (EndsEvent-event_plan cat world (record { writes = writes; opened = record { queued = queued; round = event ∷ round } ∷ levels }) event)
   level_falls next writes (event ∷ queued) [] levels answer below =
       omega (arith, sum_by-cons level_steps (record { queued = event ∷ queued; round = [] }) levels, sum_by-cons level_steps (record { queued = []; round = event ∷ queued }) levels)
   level_falls next writes [] [] levels answer below =
@@ -129,14 +129,14 @@ abbrev after_step : Catalog → World → ℕ → Session → Option Bound → S
 after_step cat world s me statement = (effects cat s (effects_of_plan cat (task_plan cat world me statement me.tasks)) (record { world = world; me = me })).me
 
 -- what is to be shown of a session that has ended or not
-abbrev Falls_at : Catalog → World → ℕ → List Bound → Session → Bool → Type 0
-Falls_at cat world s statements me ended =
+abbrev FallsAt : Catalog → World → ℕ → List Bound → Session → Bool → Type 0
+FallsAt cat world s statements me ended =
     let told : Session = record { next = me.next; transaction = me.transaction; tasks = me.tasks; ended = ended } in
     session_steps cat statements (after_step cat world s told (slice_get statements me.next)) < session_steps cat statements told
 
 session_falls : (cat : Catalog) (world : World) (s : ℕ) (statements : List Bound) (me : Session) → me.ended ≡ false
     → session_steps cat statements (after_step cat world s me (slice_get statements me.next)) < session_steps cat statements me
-session_falls cat world s statements me goes_on = subst (Falls_at cat world s statements me) (sym goes_on) (task_falls cat world s statements me.next me.transaction me.tasks)
+session_falls cat world s statements me goes_on = subst (FallsAt cat world s statements me) (sym goes_on) (task_falls cat world s statements me.next me.transaction me.tasks)
 
 -- the statements of a session
 abbrev script_of : List (List Bound) → ℕ → List Bound
@@ -161,17 +161,17 @@ statement_at_own (statements ∷ scripts) (suc s) n = statement_at_own scripts s
 pub steps_left-step : (program : Program) (st : State) (s : ℕ) → is_enabled st s ≡ true → steps_left program (step program st s) < steps_left program st
 unfolding step effects_of plan_of
 steps_left-step program st s enabled =
-    let can = Can_step-enabled st s enabled in
+    let can = CanStep-enabled st s enabled in
     let me = session_at st s in
     let falls = session_falls program.catalog st.world s (script_of program.sessions s) me can.goes_on in
     let own = statement_at_own program.sessions s me.next in
     let after = after_step program.catalog st.world s me (statement_at program s me.next) in
     sessions_fall program.catalog program.sessions st.sessions s after can.within (rw own falls)
 
-fits_within : (program : Program) (st : State) (schedule : Schedule) → Can_run_from program st schedule → length schedule ≤ steps_left program st
-unfolding Can_run_from
+fits_within : (program : Program) (st : State) (schedule : Schedule) → CanRunFrom program st schedule → length schedule ≤ steps_left program st
+unfolding CanRunFrom
 fits_within program st [] can = omega arith
 fits_within program st (s ∷ schedule) can = omega (arith, steps_left-step program st s can.0, fits_within program (step program st s) schedule can.1)
 
-pub runs_are_finite : Runs_are_finite
+pub runs_are_finite : RunsAreFinite
 runs_are_finite program schedule can = fits_within program (opening program) schedule can

@@ -4,17 +4,17 @@ use Rattle.aq_base.specs.Values.{values_at, has_no_null}
 use Rattle.aq_base.specs.Maps.{at}
 use Rattle.aq_base.specs.Catalogs.{Catalog}
 use Rattle.aq_base.specs.Databases.{Database, Stored}
-use Rattle.aq_base.specs.References.{Has_parent, Keys_are_unique}
+use Rattle.aq_base.specs.References.{HasParent, KeysAreUnique}
 use Rattle.aq_base.specs.Writes.{Write, Writes, overlay}
 use Rattle.aq_base.specs.Works.{Event, Opened}
 use Rattle.aq_base.specs.declared.catalog.ForeignKey.{ForeignKey}
 use Rattle.aq_base.specs.declared.catalog.Trigger.{Trigger}
 use Rattle.aq_base.specs.declared.catalog.Does.TheVariants.{Check}
-use Rattle.aq_base.proofs.Maps.{Keys_rise}
+use Rattle.aq_base.proofs.Maps.{KeysRise}
 use Rattle.aq_run.specs.States.{Operation, Target, Answer, Task, Transaction, State, last_of, session_at}
 use Rattle.aq_run.specs.States.Task.{Rows, Rounds, Committing}
 use Rattle.aq_run.specs.Effects.{Scene}
-use Rattle.aq_laws.specs.Committed.{Database_stands}
+use Rattle.aq_laws.specs.Committed.{DatabaseStands}
 
 -- what a transaction with these writes sees
 abbrev pub view_of : List Database → Writes → Database
@@ -28,7 +28,7 @@ pub record Refers (cat : Catalog) (view : Database) (fk : ℕ) (f : ForeignKey) 
   pub no_null : has_no_null (values_at f.child_cols child.values) ≡ true
 
 -- an event that is still to fire checks the row's newest version, by the foreign key with a number
-pub record Check_waits (cat : Catalog) (fk row : ℕ) (writes : Writes) (events : List Event) : Type 0 where
+pub record CheckWaits (cat : Catalog) (fk row : ℕ) (writes : Writes) (events : List Event) : Type 0 where
   pub event : Event
   pub waits : Contains events event
   pub trigger : Trigger
@@ -40,23 +40,23 @@ pub record Check_waits (cat : Catalog) (fk row : ℕ) (writes : Writes) (events 
   pub live : write.number ≡ event.write
 
 -- each reference has its parent, or its check is still to fire
-abbrev pub References_wait : Catalog → Database → Writes → List Event → Type 0
-References_wait cat view writes events =
+abbrev pub ReferencesWait : Catalog → Database → Writes → List Event → Type 0
+ReferencesWait cat view writes events =
     (fk : ℕ) (f : ForeignKey) (row : ℕ) (child : Stored) → Refers cat view fk f row child →
-    Has_parent f (values_at f.child_cols child.values) view ⊎ Check_waits cat fk row writes events
+    HasParent f (values_at f.child_cols child.values) view ⊎ CheckWaits cat fk row writes events
 
 -- the event's row is written by its change or by a later one, and has its image where it is the same one
-pub record Event_fits (writes : Writes) (event : Event) : Type 0 where
+pub record EventFits (writes : Writes) (event : Event) : Type 0 where
   pub write : Write
   pub written : at event.row writes ≡ Some write
   pub not_older : event.write ≤ write.number
   pub image : write.number ≡ event.write → write.image ≡ event.new
 
 -- the databases, and the row numbers that were drawn
-pub record History_stands (cat : Catalog) (history : List Database) (rows : ℕ) : Type 0 where
-  pub all : (db : Database) → Contains history db → Database_stands cat db
-  pub last : Database_stands cat (last_of history)
-  pub rise : Keys_rise (last_of history)
+pub record HistoryStands (cat : Catalog) (history : List Database) (rows : ℕ) : Type 0 where
+  pub all : (db : Database) → Contains history db → DatabaseStands cat db
+  pub last : DatabaseStands cat (last_of history)
+  pub rise : KeysRise (last_of history)
   pub drawn : (row : ℕ) (stored : Stored) → at row (last_of history) ≡ Some stored → row ≤ rows
 
 -- the numbers of a written row and of its change were drawn
@@ -65,12 +65,12 @@ pub record Drawn (rows numbers row : ℕ) (write : Write) : Type 0 where
   pub number_drawn : write.number ≤ numbers
 
 -- what a transaction has written, with the events that are still to fire
-pub record Work_stands (cat : Catalog) (history : List Database) (rows numbers : ℕ) (writes : Writes) (events : List Event) : Type 0 where
-  pub rise : Keys_rise writes
+pub record WorkStands (cat : Catalog) (history : List Database) (rows numbers : ℕ) (writes : Writes) (events : List Event) : Type 0 where
+  pub rise : KeysRise writes
   pub drawn : (row : ℕ) (write : Write) → at row writes ≡ Some write → Drawn rows numbers row write
-  pub keys : Keys_are_unique cat.keys (view_of history writes)
-  pub references : References_wait cat (view_of history writes) writes events
-  pub fit : (event : Event) → Contains events event → Event_fits writes event
+  pub keys : KeysAreUnique cat.keys (view_of history writes)
+  pub references : ReferencesWait cat (view_of history writes) writes events
+  pub fit : (event : Event) → Contains events event → EventFits writes event
 
 -- a transaction with these levels open
 abbrev pub with_work : Writes → List Opened → Option Transaction
@@ -81,25 +81,25 @@ abbrev pub with_level : Writes → List Event → List Event → Option Transact
 with_level writes queued round = with_work writes (record { queued = queued; round = round } ∷ [])
 
 -- What is in progress fits the transaction. Events wait in the level of the statement alone.
-pub data Session_stands (cat : Catalog) (history : List Database) (rows numbers : ℕ) : List Task → Option Transaction → Type 0 where
-  Between : Session_stands cat history rows numbers [] None
+pub data SessionStands (cat : Catalog) (history : List Database) (rows numbers : ℕ) : List Task → Option Transaction → Type 0 where
+  Between : SessionStands cat history rows numbers [] None
   In_rows : (operation : Operation) (left : List Target) (count : ℕ) (writes : Writes) (queued : List Event)
-      → Work_stands cat history rows numbers writes queued
-      → Session_stands cat history rows numbers (Rows operation left count ∷ []) (with_level writes queued [])
+      → WorkStands cat history rows numbers writes queued
+      → SessionStands cat history rows numbers (Rows operation left count ∷ []) (with_level writes queued [])
   In_rounds : (answer : Answer) (writes : Writes) (queued round : List Event)
-      → Work_stands cat history rows numbers writes (round ++ queued)
-      → Session_stands cat history rows numbers (Rounds answer ∷ []) (with_level writes queued round)
+      → WorkStands cat history rows numbers writes (round ++ queued)
+      → SessionStands cat history rows numbers (Rounds answer ∷ []) (with_level writes queued round)
   In_commit : (answer : Answer) (writes : Writes)
-      → Work_stands cat history rows numbers writes []
-      → Session_stands cat history rows numbers (Committing answer ∷ []) (with_work writes [])
+      → WorkStands cat history rows numbers writes []
+      → SessionStands cat history rows numbers (Committing answer ∷ []) (with_work writes [])
 
 -- the world and a session
-pub record Scene_stands (cat : Catalog) (scene : Scene) : Type 0 where
-  pub history : History_stands cat scene.world.history scene.world.rows
-  pub session : Session_stands cat scene.world.history scene.world.rows scene.world.writes scene.me.tasks scene.me.transaction
+pub record SceneStands (cat : Catalog) (scene : Scene) : Type 0 where
+  pub history : HistoryStands cat scene.world.history scene.world.rows
+  pub session : SessionStands cat scene.world.history scene.world.rows scene.world.writes scene.me.tasks scene.me.transaction
 
 -- a state with one session at the most
-pub record State_stands (cat : Catalog) (st : State) : Type 0 where
+pub record StateStands (cat : Catalog) (st : State) : Type 0 where
   pub one : length st.sessions ≤ 1
-  pub history : History_stands cat st.world.history st.world.rows
-  pub sessions : (s : ℕ) → s < length st.sessions → Session_stands cat st.world.history st.world.rows st.world.writes (session_at st s).tasks (session_at st s).transaction
+  pub history : HistoryStands cat st.world.history st.world.rows
+  pub sessions : (s : ℕ) → s < length st.sessions → SessionStands cat st.world.history st.world.rows st.world.writes (session_at st s).tasks (session_at st s).transaction

@@ -8,35 +8,35 @@ use Rattle.aq_base.specs.Values.{Row, values_at, has_no_null, keys_match}
 use Rattle.aq_base.specs.Maps.{at, with_at}
 use Rattle.aq_base.specs.Catalogs.{Catalog}
 use Rattle.aq_base.specs.Databases.{Database, Stored, has_key}
-use Rattle.aq_base.specs.References.{Has_parent, References_hold, Keys_are_unique}
+use Rattle.aq_base.specs.References.{HasParent, ReferencesHold, KeysAreUnique}
 use Rattle.aq_base.specs.Writes.{Write, Writes, stored_by}
 use Rattle.aq_base.specs.Works.{Event, Work}
 use Rattle.aq_base.specs.declared.catalog.ForeignKey.{ForeignKey}
 use Rattle.aq_base.specs.declared.catalog.UniqueKey.{UniqueKey}
 use Rattle.aq_base.specs.declared.catalog.Op.TheVariants.{Insert}
 use Rattle.aq_base.proofs.Lists.{Contains-none, Contains-first, Contains-later, Contains-cons_cases, Contains-slice_get, slice_get-Contains}
-use Rattle.aq_base.proofs.Maps.{Keys_rise, Adds, Adds-with_at, Adds-kept, Adds-cases, Keys_rise-with_at}
+use Rattle.aq_base.proofs.Maps.{KeysRise, Adds, Adds-with_at, Adds-kept, Adds-cases, KeysRise-with_at}
 use Rattle.aq_base.proofs.Values.{keys_match-sym}
-use Rattle.aq_base.proofs.Databases.{newest, Keys_rise-overlay, at-overlay, Adds-overlay}
-use Rattle.aq_base.proofs.Setup.{Foreign_keys_are_checked}
+use Rattle.aq_base.proofs.Databases.{newest, KeysRise-overlay, at-overlay, Adds-overlay}
+use Rattle.aq_base.proofs.Setup.{ForeignKeysAreChecked}
 use Rattle.aq_outcomes.specs.Faults.Fault.{Missing}
 use Rattle.aq_outcomes.specs.Rows.{same_op, fires_on, insert_fault, insert_events}
 use Rattle.aq_outcomes.specs.References.{child_check}
 use Rattle.aq_outcomes.specs.References.Checked.{Violated}
-use Rattle.aq_outcomes.proofs.Rows.{insert_fault-none, Contains-insert_events, Is_of_change, insert_events-of_change}
+use Rattle.aq_outcomes.proofs.Rows.{insert_fault-none, Contains-insert_events, IsOfChange, insert_events-of_change}
 use Rattle.aq_outcomes.proofs.References.{child_check-cases}
 use Rattle.aq_run.specs.States.{World, last_of}
 use Rattle.aq_run.specs.Effects.Effect.{Finishes}
 use Rattle.aq_run.specs.Steps.{event_plan, check_plan}
 use Rattle.aq_run.specs.Steps.Plan.{Does_all, Fails}
-use Rattle.aq_laws.specs.Committed.{Database_stands}
+use Rattle.aq_laws.specs.Committed.{DatabaseStands}
 use Rattle.aq_laws.proofs.Events.{event_plan-check}
-use Rattle.aq_laws.proofs.Invariants.{view_of, Refers, Check_waits, References_wait, Event_fits, History_stands, Drawn, Work_stands}
+use Rattle.aq_laws.proofs.Invariants.{view_of, Refers, CheckWaits, ReferencesWait, EventFits, HistoryStands, Drawn, WorkStands}
 
 -- ---- start
 
 -- a transaction that has written nothing sees the last database
-pub begins : (cat : Catalog) (history : List Database) (rows numbers : ℕ) → History_stands cat history rows → Work_stands cat history rows numbers [] []
+pub begins : (cat : Catalog) (history : List Database) (rows numbers : ℕ) → HistoryStands cat history rows → WorkStands cat history rows numbers [] []
 begins cat history rows numbers stands =
     record {
       rise = tt;
@@ -53,9 +53,9 @@ none_from None never = refl
 none_from (Some x) never = absurd (never x refl)
 
 -- a new row whose keys no row has
-keys_with : (keys : List UniqueKey) (n : ℕ) (new : Stored) (before after : Database) → Adds n new before after → Keys_are_unique keys before
+keys_with : (keys : List UniqueKey) (n : ℕ) (new : Stored) (before after : Database) → Adds n new before after → KeysAreUnique keys before
     → ((k : UniqueKey) → Contains keys k → k.table ≡ new.table → (q : ℕ) (stored : Stored) → at q before ≡ Some stored → has_key k.table k.cols (values_at k.cols new.values) stored ≡ false)
-    → Keys_are_unique keys after
+    → KeysAreUnique keys after
 keys_with keys n new before after adds unique free k c m q one other m_stands q_stands one_in other_in same =
     by_cases (Adds-cases n new before after adds m one m_stands) (Adds-cases n new before after adds q other q_stands)
   where
@@ -74,16 +74,16 @@ keys_with keys n new before after adds unique free k c m q one other m_stands q_
 
 -- a new row whose checks are queued
 references_with : (cat : Catalog) (n : ℕ) (write : Write) (new : Stored) (writes writes_after : Writes) (view view_after : Database) (events more : List Event)
-    → Adds n write writes writes_after → Adds n new view view_after → References_wait cat view writes events
-    → ((fk : ℕ) (f : ForeignKey) → Refers cat view_after fk f n new → Check_waits cat fk n writes_after (events ++ more))
-    → References_wait cat view_after writes_after (events ++ more)
+    → Adds n write writes writes_after → Adds n new view view_after → ReferencesWait cat view writes events
+    → ((fk : ℕ) (f : ForeignKey) → Refers cat view_after fk f n new → CheckWaits cat fk n writes_after (events ++ more))
+    → ReferencesWait cat view_after writes_after (events ++ more)
 references_with cat n write new writes writes_after view view_after events more adds_write adds_row wait queued fk f row child refers =
     by_row (Adds-cases n new view view_after adds_row row child refers.stands)
   where
-    parent_stays : Has_parent f (values_at f.child_cols child.values) view → Has_parent f (values_at f.child_cols child.values) view_after
+    parent_stays : HasParent f (values_at f.child_cols child.values) view → HasParent f (values_at f.child_cols child.values) view_after
     parent_stays parent = record { number = parent.number; row = parent.row; stands = Adds-kept n new view view_after adds_row parent.number parent.row parent.stands; has = parent.has }
 
-    check_stays : Check_waits cat fk row writes events → Check_waits cat fk row writes_after (events ++ more)
+    check_stays : CheckWaits cat fk row writes events → CheckWaits cat fk row writes_after (events ++ more)
     check_stays waits =
         record {
           event = waits.event;
@@ -97,8 +97,8 @@ references_with cat n write new writes writes_after view view_after events more 
           live = waits.live;
         }
 
-    stays : Has_parent f (values_at f.child_cols child.values) view ⊎ Check_waits cat fk row writes events
-        → Has_parent f (values_at f.child_cols child.values) view_after ⊎ Check_waits cat fk row writes_after (events ++ more)
+    stays : HasParent f (values_at f.child_cols child.values) view ⊎ CheckWaits cat fk row writes events
+        → HasParent f (values_at f.child_cols child.values) view_after ⊎ CheckWaits cat fk row writes_after (events ++ more)
     stays (inl parent) = inl (parent_stays parent)
     stays (inr waits) = inr (check_stays waits)
 
@@ -111,15 +111,15 @@ references_with cat n write new writes writes_after view view_after events more 
           no_null = ap (λ r. has_no_null (values_at f.child_cols r.values)) (sym same) ∙ refers.no_null;
         }
 
-    by_row : ((row ≡ n) × (child ≡ new)) ⊎ (at row view ≡ Some child) → Has_parent f (values_at f.child_cols child.values) view_after ⊎ Check_waits cat fk row writes_after (events ++ more)
-    by_row (inl is_new) = inr (subst (λ r. Check_waits cat fk r writes_after (events ++ more)) (sym is_new.0) (queued fk f (new_refers is_new.1)))
+    by_row : ((row ≡ n) × (child ≡ new)) ⊎ (at row view ≡ Some child) → HasParent f (values_at f.child_cols child.values) view_after ⊎ CheckWaits cat fk row writes_after (events ++ more)
+    by_row (inl is_new) = inr (subst (λ r. CheckWaits cat fk r writes_after (events ++ more)) (sym is_new.0) (queued fk f (new_refers is_new.1)))
     by_row (inr old) = stays (wait fk f row child (record { key = refers.key; stands = old; in_child = refers.in_child; no_null = refers.no_null }))
 
 -- the new row's events among those that wait
 check_is_queued : (cat : Catalog) (table row number : ℕ) (values : Row) (commit : ℕ) (writes_after : Writes) (view_after : Database) (events : List Event)
-    → Foreign_keys_are_checked cat → at row writes_after ≡ Some (record { table = table; image = values; number = number })
+    → ForeignKeysAreChecked cat → at row writes_after ≡ Some (record { table = table; image = values; number = number })
     → (fk : ℕ) (f : ForeignKey) → Refers cat view_after fk f row (record { table = table; values = values; commit = commit })
-    → Check_waits cat fk row writes_after (events ++ insert_events cat table row number values)
+    → CheckWaits cat fk row writes_after (events ++ insert_events cat table row number values)
 check_is_queued cat table row number values commit writes_after view_after events checked written fk f refers =
     let check = checked fk f refers.key in
     let event : Event = record { trigger = check.number; row = row; write = number; new = values } in
@@ -139,18 +139,18 @@ check_is_queued cat table row number values commit writes_after view_after event
 
 -- the events of the change have its image
 events_fit : (cat : Catalog) (table row number : ℕ) (values : Row) (writes writes_after : Writes) (events : List Event)
-    → Adds row (record { table = table; image = values; number = number }) writes writes_after → ((event : Event) → Contains events event → Event_fits writes event)
-    → (event : Event) → Contains (events ++ insert_events cat table row number values) event → Event_fits writes_after event
+    → Adds row (record { table = table; image = values; number = number }) writes writes_after → ((event : Event) → Contains events event → EventFits writes event)
+    → (event : Event) → Contains (events ++ insert_events cat table row number values) event → EventFits writes_after event
 events_fit cat table row number values writes writes_after events adds fit event c =
     by_place (Contains-append_cases events (insert_events cat table row number values) event c)
   where
     write : Write
     write = record { table = table; image = values; number = number }
 
-    kept : Event_fits writes event → Event_fits writes_after event
+    kept : EventFits writes event → EventFits writes_after event
     kept is = record { write = is.write; written = Adds-kept row write writes writes_after adds event.row is.write is.written; not_older = is.not_older; image = is.image }
 
-    of_change : Is_of_change row number values event → Event_fits writes_after event
+    of_change : IsOfChange row number values event → EventFits writes_after event
     of_change is =
         record {
           write = write;
@@ -159,7 +159,7 @@ events_fit cat table row number values writes writes_after events adds fit event
           image = λ same. sym is.image;
         }
 
-    by_place : Contains events event ⊎ Contains (insert_events cat table row number values) event → Event_fits writes_after event
+    by_place : Contains events event ⊎ Contains (insert_events cat table row number values) event → EventFits writes_after event
     by_place (inl old) = kept (fit event old)
     by_place (inr new) = of_change (insert_events-of_change cat table row number values event new)
 
@@ -174,9 +174,9 @@ drawn_with rows numbers write writes after number adds drawn r w is = by_row (Ad
 
 -- a row that isn't refused, with its events
 pub inserts : (cat : Catalog) (history : List Database) (rows numbers : ℕ) (writes : Writes) (events : List Event) (table : ℕ) (values : Row)
-    → Foreign_keys_are_checked cat → History_stands cat history rows → Work_stands cat history rows numbers writes events
+    → ForeignKeysAreChecked cat → HistoryStands cat history rows → WorkStands cat history rows numbers writes events
     → insert_fault cat (view_of history writes) table values ≡ None
-    → Work_stands cat history (rows + 1) (numbers + 1) (with_at (rows + 1) (record { table = table; image = values; number = numbers + 1 }) writes)
+    → WorkStands cat history (rows + 1) (numbers + 1) (with_at (rows + 1) (record { table = table; image = values; number = numbers + 1 }) writes)
     (events ++ insert_events cat table (rows + 1) (numbers + 1) values)
 inserts cat history rows numbers writes events table values checked stands work free =
     let row = rows + 1 in
@@ -188,7 +188,7 @@ inserts cat history rows numbers writes events table values checked stands work 
     let adds_write = Adds-with_at row write writes unwritten in
     let adds_row = Adds-overlay (length history) row write writes (last_of history) work.rise unwritten absent in
     record {
-      rise = Keys_rise-with_at row write writes work.rise;
+      rise = KeysRise-with_at row write writes work.rise;
       drawn = λ r w is. drawn_with rows numbers write writes after refl adds_write work.drawn r w is;
       keys = keys_with cat.keys row new (view_of history writes) (view_of history after) adds_row work.keys (insert_fault-none cat (view_of history writes) table values free);
       references = references_with cat row write new writes after (view_of history writes) (view_of history after) events (insert_events cat table row (numbers + 1) values) adds_write adds_row work.references
@@ -197,30 +197,30 @@ inserts cat history rows numbers writes events table values checked stands work 
     }
 
 -- the databases stay
-pub draws : (cat : Catalog) (history : List Database) (rows : ℕ) → History_stands cat history rows → History_stands cat history (rows + 1)
+pub draws : (cat : Catalog) (history : List Database) (rows : ℕ) → HistoryStands cat history rows → HistoryStands cat history (rows + 1)
 draws cat history rows stands = record { all = stands.all; last = stands.last; rise = stands.rise; drawn = λ row stored is. let le = stands.drawn row stored is in omega arith }
 
 -- ---- round
 
 pub takes_round : (cat : Catalog) (history : List Database) (rows numbers : ℕ) (writes : Writes) (events : List Event)
-    → Work_stands cat history rows numbers writes events → Work_stands cat history rows numbers writes (events ++ [])
+    → WorkStands cat history rows numbers writes events → WorkStands cat history rows numbers writes (events ++ [])
 takes_round cat history rows numbers writes events work = rw append-nil work
 
 -- ---- event
 
-waits_among : (cat : Catalog) (fk row : ℕ) (writes : Writes) (events others : List Event) → (waits : Check_waits cat fk row writes events) → Contains others waits.event → Check_waits cat fk row writes others
+waits_among : (cat : Catalog) (fk row : ℕ) (writes : Writes) (events others : List Event) → (waits : CheckWaits cat fk row writes events) → Contains others waits.event → CheckWaits cat fk row writes others
 waits_among cat fk row writes events others waits c =
     record { event = waits.event; waits = c; trigger = waits.trigger; of_trigger = waits.of_trigger; checks = waits.checks; of_row = waits.of_row; write = waits.write; written = waits.written; live = waits.live }
 
 -- the check that is done has found the row's parent
 now_checked : (cat : Catalog) (world : World) (work : Work) (event : Event) (events : List Event)
-    → Keys_rise (last_of world.history) → Work_stands cat world.history world.rows world.writes work.writes events → Contains events event
+    → KeysRise (last_of world.history) → WorkStands cat world.history world.rows world.writes work.writes events → Contains events event
     → event_plan cat world work event ≡ Does_all (Finishes ∷ [])
     → (fk : ℕ) (f : ForeignKey) (row : ℕ) (child : Stored) → Refers cat (view_of world.history work.writes) fk f row child
-    → (waits : Check_waits cat fk row work.writes events) → event ≡ waits.event
-    → Has_parent f (values_at f.child_cols child.values) (view_of world.history work.writes)
+    → (waits : CheckWaits cat fk row work.writes events) → event ≡ waits.event
+    → HasParent f (values_at f.child_cols child.values) (view_of world.history work.writes)
 now_checked cat world work event events rise stands c done fk f row child refers waits same =
-    by_check (child_check-cases f event fits.write work.writes view (Keys_rise-overlay commit work.writes (last_of world.history) rise) fits.written live no_null)
+    by_check (child_check-cases f event fits.write work.writes view (KeysRise-overlay commit work.writes (last_of world.history) rise) fits.written live no_null)
   where
     commit : ℕ
     commit = length world.history
@@ -228,7 +228,7 @@ now_checked cat world work event events rise stands c done fk f row child refers
     view : Database
     view = view_of world.history work.writes
 
-    fits : Event_fits work.writes event
+    fits : EventFits work.writes event
     fits = stands.fit event c
 
     of_row : at event.row work.writes ≡ at row work.writes
@@ -252,18 +252,18 @@ now_checked cat world work event events rise stands c done fk f row child refers
     plan : event_plan cat world work event ≡ check_plan (child_check f event work.writes view)
     plan = event_plan-check cat world work event waits.trigger fk f (ap (λ e. slice_get cat.triggers e.trigger) same ∙ waits.of_trigger) waits.checks refers.key
 
-    by_check : Has_parent f (values_at f.child_cols event.new) view ⊎ (child_check f event work.writes view ≡ Violated (Missing f (values_at f.child_cols event.new)))
-        → Has_parent f (values_at f.child_cols child.values) view
-    by_check (inl parent) = subst (λ values. Has_parent f (values_at f.child_cols values) view) (sym image) parent
+    by_check : HasParent f (values_at f.child_cols event.new) view ⊎ (child_check f event work.writes view ≡ Violated (Missing f (values_at f.child_cols event.new)))
+        → HasParent f (values_at f.child_cols child.values) view
+    by_check (inl parent) = subst (λ values. HasParent f (values_at f.child_cols values) view) (sym image) parent
     by_check (inr violated) =
         let refused : Does_all (Finishes ∷ []) ≡ Fails (Missing f (values_at f.child_cols event.new)) = sym done ∙ plan ∙ ap check_plan violated in
         absurd (cc)
 
 -- an event that is done was no check, or its row has a parent now
 pub finishes : (cat : Catalog) (world : World) (work : Work) (event : Event) (events : List Event)
-    → Keys_rise (last_of world.history) → Work_stands cat world.history world.rows world.writes work.writes (event ∷ events)
+    → KeysRise (last_of world.history) → WorkStands cat world.history world.rows world.writes work.writes (event ∷ events)
     → event_plan cat world work event ≡ Does_all (Finishes ∷ [])
-    → Work_stands cat world.history world.rows world.writes work.writes events
+    → WorkStands cat world.history world.rows world.writes work.writes events
 finishes cat world work event events rise stands done =
     record {
       rise = stands.rise;
@@ -274,22 +274,22 @@ finishes cat world work event events rise stands done =
     }
   where
     still : (fk : ℕ) (f : ForeignKey) (row : ℕ) (child : Stored) → Refers cat (view_of world.history work.writes) fk f row child
-        → (waits : Check_waits cat fk row work.writes (event ∷ events)) → (event ≡ waits.event) ⊎ Contains events waits.event
-        → Has_parent f (values_at f.child_cols child.values) (view_of world.history work.writes) ⊎ Check_waits cat fk row work.writes events
+        → (waits : CheckWaits cat fk row work.writes (event ∷ events)) → (event ≡ waits.event) ⊎ Contains events waits.event
+        → HasParent f (values_at f.child_cols child.values) (view_of world.history work.writes) ⊎ CheckWaits cat fk row work.writes events
     still fk f row child refers waits (inl first) = inl (now_checked cat world work event (event ∷ events) rise stands (Contains-first event events) done fk f row child refers waits first)
     still fk f row child refers waits (inr later) = inr (waits_among cat fk row work.writes (event ∷ events) events waits later)
 
-    references : References_wait cat (view_of world.history work.writes) work.writes events
+    references : ReferencesWait cat (view_of world.history work.writes) work.writes events
     references fk f row child refers =
         ⊎_elim (λ parent. inl parent) (λ waits. still fk f row child refers waits (Contains-cons_cases event waits.event events waits.waits)) (stands.references fk f row child refers)
 
 -- ---- commit
 
 -- with no event left to fire, what the transaction sees stands
-committed_stands : (cat : Catalog) (history : List Database) (rows numbers : ℕ) (writes : Writes) → Work_stands cat history rows numbers writes [] → Database_stands cat (view_of history writes)
+committed_stands : (cat : Catalog) (history : List Database) (rows numbers : ℕ) (writes : Writes) → WorkStands cat history rows numbers writes [] → DatabaseStands cat (view_of history writes)
 committed_stands cat history rows numbers writes work = record { references = references; keys = work.keys }
   where
-    references : References_hold cat.fks (view_of history writes)
+    references : ReferencesHold cat.fks (view_of history writes)
     references f c row child stands in_child no_null =
         let place = slice_get-Contains cat.fks f c in
         ⊎_elim (λ parent. parent) (λ waits. absurd (Contains-none waits.event waits.waits))
@@ -305,16 +305,16 @@ last_of-push [] db = refl
 last_of-push (first ∷ []) db = refl
 last_of-push (first ∷ second ∷ history) db = last_of-push (second ∷ history) db
 
-pub commits : (cat : Catalog) (history : List Database) (rows numbers : ℕ) (writes : Writes) → History_stands cat history rows → Work_stands cat history rows numbers writes []
-    → History_stands cat (history ++ view_of history writes ∷ []) rows
+pub commits : (cat : Catalog) (history : List Database) (rows numbers : ℕ) (writes : Writes) → HistoryStands cat history rows → WorkStands cat history rows numbers writes []
+    → HistoryStands cat (history ++ view_of history writes ∷ []) rows
 commits cat history rows numbers writes stands work =
     let view = view_of history writes in
     let now = committed_stands cat history rows numbers writes work in
     let last = last_of-push history view in
     record {
-      all = λ db c. ⊎_elim (stands.all db) (λ same. subst (Database_stands cat) same now) (Contains-push_cases history view db c);
-      last = subst (Database_stands cat) (sym last) now;
-      rise = subst Keys_rise (sym last) (Keys_rise-overlay (length history) writes (last_of history) stands.rise);
+      all = λ db c. ⊎_elim (stands.all db) (λ same. subst (DatabaseStands cat) same now) (Contains-push_cases history view db c);
+      last = subst (DatabaseStands cat) (sym last) now;
+      rise = subst KeysRise (sym last) (KeysRise-overlay (length history) writes (last_of history) stands.rise);
       drawn = λ row stored is.
           view_drawn (length history) rows row stored (at row writes) (at row (last_of history))
           (sym (at-overlay (length history) writes (last_of history) row work.rise) ∙ sym (ap (λ db. at row db) last) ∙ is)

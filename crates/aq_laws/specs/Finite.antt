@@ -7,7 +7,7 @@ use Rattle.aq_base.specs.declared.script.Bound.{Bound}
 use Rattle.aq_base.specs.declared.script.Bound.TheVariants.{InsertRows}
 use Rattle.aq_run.specs.States.{Task, Transaction, Session, State, opening}
 use Rattle.aq_run.specs.States.Task.{Rows, Rounds, Committing}
-use Rattle.aq_run.specs.Runs.{Schedule, Is_schedule}
+use Rattle.aq_run.specs.Runs.{Schedule, IsSchedule}
 
 -- Each number bounds the steps that are still to come because of what it is said of.
 
@@ -55,5 +55,5 @@ abbrev pub steps_left : Program → State → ℕ
 steps_left program st = sessions_steps program.catalog program.sessions st.sessions
 
 -- no schedule that can be run is longer than the number of the first state
-abbrev pub Runs_are_finite : Type 0
-Runs_are_finite = (program : Program) (schedule : Schedule) → Is_schedule program schedule → length schedule ≤ steps_left program (opening program)
+abbrev pub RunsAreFinite : Type 0
+RunsAreFinite = (program : Program) (schedule : Schedule) → IsSchedule program schedule → length schedule ≤ steps_left program (opening program)

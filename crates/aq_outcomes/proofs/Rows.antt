@@ -53,12 +53,12 @@ Contains-insert_events cat table row write values n trigger stands fires =
     Contains-map (λ t. record { trigger = t; row = row; write = write; new = values }) (queued_by cat table Insert) n (rw zero-add at (queued_from 0 table Insert cat.triggers n trigger stands fires))
 
 -- an event of the change
-pub record Is_of_change (row write : ℕ) (values : Row) (event : Event) : Type 0 where
+pub record IsOfChange (row write : ℕ) (values : Row) (event : Event) : Type 0 where
   pub of_row : event.row ≡ row
   pub of_write : event.write ≡ write
   pub image : event.new ≡ values
 
-pub insert_events-of_change : (cat : Catalog) (table row write : ℕ) (values : Row) (event : Event) → Contains (insert_events cat table row write values) event → Is_of_change row write values event
+pub insert_events-of_change : (cat : Catalog) (table row write : ℕ) (values : Row) (event : Event) → Contains (insert_events cat table row write values) event → IsOfChange row write values event
 insert_events-of_change cat table row write values event c =
     let from = Contains-map_from (λ t. record { trigger = t; row = row; write = write; new = values }) (queued_by cat table Insert) event c in
     record { of_row = ap (λ e. e.row) (sym from.2); of_write = ap (λ e. e.write) (sym from.2); image = ap (λ e. e.new) (sym from.2) }
