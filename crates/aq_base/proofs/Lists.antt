@@ -1,5 +1,5 @@
 -- Elements of lists.
-use Rattle.std.proofs.Common.{◌≡◌, ℕ, zero, suc, ◌⊎◌, inl, inr, ⊎_elim, List, [], ◌∷◌, ◌++◌, length, map, slice_get, Some, None, find, cond, Contains, Bool, false, sym, ◌∙◌, refl, ap, subst, arith}
+use Rattle.std.proofs.Common.{◌≡◌, ℕ, zero, suc, ◌⊎◌, inl, inr, ⊎_elim, List, [], ◌∷◌, ◌++◌, length, map, slice_get, Some, None, find, filter, cond, Contains, Bool, true, false, sym, ◌∙◌, refl, ap, subst, arith}
 use Rattle.std.proofs.lemmas.Option.{same_Some, none-some}
 use Rattle.std.proofs.lemmas.Bool.{cases_Bool}
 
@@ -44,9 +44,14 @@ slice_get-append [] ys n x e = absurd (grind (arith, e))
 slice_get-append (y ∷ xs) ys zero x e = e
 slice_get-append (y ∷ xs) ys (suc n) x e = slice_get-append xs ys n x e
 
-pub slice_get-push : {X : Type 0} (xs : List X) (y : X) → slice_get (xs ++ y ∷ []) (length xs) ≡ Some y
-slice_get-push [] y = refl
-slice_get-push (x ∷ xs) y = slice_get-push xs y
+-- the elements behind a list, one after the other
+pub slice_get-behind : {X : Type 0} (xs : List X) (y : X) (ys : List X) → slice_get (xs ++ y ∷ ys) (length xs) ≡ Some y
+slice_get-behind [] y ys = refl
+slice_get-behind (x ∷ xs) y ys = slice_get-behind xs y ys
+
+pub slice_get-behind_next : {X : Type 0} (xs : List X) (y z : X) (ys : List X) → slice_get (xs ++ y ∷ z ∷ ys) (suc (length xs)) ≡ Some z
+slice_get-behind_next [] y z ys = refl
+slice_get-behind_next (x ∷ xs) y z ys = slice_get-behind_next xs y z ys
 
 -- what stands in a list with one element more at its end stood there, or is that element
 pub slice_get-push_cases : {X : Type 0} (xs : List X) (y : X) (n : ℕ) (x : X) → slice_get (xs ++ y ∷ []) n ≡ Some x → (slice_get xs n ≡ Some x) ⊎ ((n ≡ length xs) × (y ≡ x))
@@ -54,6 +59,34 @@ slice_get-push_cases [] y zero x e = inr (refl, same_Some y x e)
 slice_get-push_cases [] y (suc n) x e = absurd (grind (arith, e))
 slice_get-push_cases (z ∷ xs) y zero x e = inl e
 slice_get-push_cases (z ∷ xs) y (suc n) x e = ⊎_elim (λ old. inl old) (λ new. inr (ap suc new.0, new.1)) (slice_get-push_cases xs y n x e)
+
+-- an element that passes a test stays in what the test keeps
+pub Contains-filter : {X : Type 0} (test : X → Bool) (xs : List X) (x : X) → Contains xs x → test x ≡ true → Contains (filter test xs) x
+Contains-filter test [] x c passes = absurd (Contains-none x c)
+Contains-filter test (y ∷ xs) x c passes =
+    ⊎_elim
+    (λ first. subst (λ b. Contains (cond b (y ∷ filter test xs) (filter test xs)) x) (sym (ap test first ∙ passes)) (subst (Contains (y ∷ filter test xs)) first (Contains-first y (filter test xs))))
+    (λ later. let rest = Contains-filter test xs x later passes in
+    elim (test y) as (λ b. Contains (cond b (y ∷ filter test xs) (filter test xs)) x) [ true ↦ Contains-later y x (filter test xs) rest | false ↦ rest ])
+    (Contains-cons_cases y x xs c)
+
+-- what a test keeps was there
+pub Contains-filter_from : {X : Type 0} (test : X → Bool) (xs : List X) (x : X) → Contains (filter test xs) x → Contains xs x
+Contains-filter_from test [] x c = absurd (Contains-none x c)
+Contains-filter_from test (y ∷ xs) x c =
+    (elim (test y) as (λ b. Contains (cond b (y ∷ filter test xs) (filter test xs)) x → Contains (y ∷ xs) x) [
+      | true ↦ λ kept. ⊎_elim (λ first. subst (Contains (y ∷ xs)) first (Contains-first y xs)) (λ later. Contains-later y x xs (Contains-filter_from test xs x later)) (Contains-cons_cases y x (filter test xs) kept)
+      | false ↦ λ kept. Contains-later y x xs (Contains-filter_from test xs x kept)
+    ]) c
+
+-- what a test keeps passes it
+pub filter_passes : {X : Type 0} (test : X → Bool) (xs : List X) (x : X) → Contains (filter test xs) x → test x ≡ true
+filter_passes test [] x c = absurd (Contains-none x c)
+filter_passes test (y ∷ xs) x c =
+    (elim (test y) as (λ b. test y ≡ b → Contains (cond b (y ∷ filter test xs) (filter test xs)) x → test x ≡ true) [
+      | true ↦ λ passes kept. ⊎_elim (λ first. ap test (sym first) ∙ passes) (λ later. filter_passes test xs x later) (Contains-cons_cases y x (filter test xs) kept)
+      | false ↦ λ fails kept. filter_passes test xs x kept
+    ]) refl c
 
 -- where no element passes a test, each fails it
 pub find_none : {X : Type 0} (test : X → Bool) (xs : List X) → find test xs ≡ None → (x : X) → Contains xs x → test x ≡ false
