@@ -1,16 +1,16 @@
 -- What a check that passes has found.
-use Rattle.std.proofs.Common.{◌≡◌, true, cond, ◌⊎◌, inl, inr, ⊎_elim, Some, ◌∙◌, ap}
+use Rattle.std.proofs.Common.{◌≡◌, ℕ, true, false, cond, ◌⊎◌, inl, inr, ⊎_elim, Some, ◌∙◌, ap}
 use Rattle.std.proofs.lemmas.Bool.{eq-eqb, cases_Bool}
-use Rattle.aq_base.specs.Values.{Row, values_at, has_no_null}
+use Rattle.aq_base.specs.Values.{Row, has_no_null}
 use Rattle.aq_base.specs.Maps.{at}
-use Rattle.aq_base.specs.Databases.{Database, has_key}
+use Rattle.aq_base.specs.Databases.{Database, Stored, has_key}
 use Rattle.aq_base.specs.References.{Has_parent}
 use Rattle.aq_base.specs.Writes.{Write, Writes}
 use Rattle.aq_base.specs.Works.{Event}
 use Rattle.aq_base.specs.declared.catalog.ForeignKey.{ForeignKey}
-use Rattle.aq_base.proofs.Maps.{Keys_rise, Passing-any}
-use Rattle.aq_outcomes.specs.Faults.Fault.{Missing}
-use Rattle.aq_outcomes.specs.References.{is_live, has_parent, look_for_parent, child_check}
+use Rattle.aq_base.proofs.Maps.{Keys_rise, Passing-any, passes_none}
+use Rattle.aq_outcomes.specs.Faults.Fault.{Missing, Referenced}
+use Rattle.aq_outcomes.specs.References.{is_live, has_parent, look_for_parent, key_in, child_check, has_child, parent_check}
 use Rattle.aq_outcomes.specs.References.Checked.{Passed, Skipped, Violated}
 
 pub Has_parent-found : (f : ForeignKey) (key : Row) (view : Database) → Keys_rise view → has_parent f key view ≡ true → Has_parent f key view
@@ -20,11 +20,28 @@ Has_parent-found f key view rise found =
 
 -- the check of a live event whose key has no null finds a parent, or is violated
 pub child_check-cases : (f : ForeignKey) (event : Event) (write : Write) (writes : Writes) (view : Database) → Keys_rise view → at event.row writes ≡ Some write → write.number ≡ event.write
-    → has_no_null (values_at f.child_cols event.new) ≡ true → Has_parent f (values_at f.child_cols event.new) view ⊎ (child_check f event writes view ≡ Violated (Missing f (values_at f.child_cols event.new)))
+    → has_no_null (key_in f.child_cols event.new) ≡ true → Has_parent f (key_in f.child_cols event.new) view ⊎ (child_check f event writes view ≡ Violated (Missing f (key_in f.child_cols event.new)))
 child_check-cases f event write writes view rise written live no_null =
-    let key = values_at f.child_cols event.new in
+    let key = key_in f.child_cols event.new in
     ⊎_elim (λ found. inl (Has_parent-found f key view rise found)) (λ missing. inr (
     ap (λ o. cond (is_live event o) (look_for_parent f key view) Skipped) written
     ∙ ap (λ b. cond b (look_for_parent f key view) Skipped) (eq-eqb write.number event.write live)
     ∙ ap (λ b. cond b (cond (has_parent f key view) Passed (Violated (Missing f key))) Passed) no_null
     ∙ ap (λ b. cond b Passed (Violated (Missing f key))) missing)) (cases_Bool (has_parent f key view))
+
+-- no row of the child table has the key
+pub record Has_no_child (f : ForeignKey) (key : Row) (view : Database) : Type 0 where
+  pub none : (number : ℕ) (row : Stored) → at number view ≡ Some row → has_key f.child f.child_cols key row ≡ false
+
+-- the check of a parent row that went finds another parent or no child, or is violated
+pub parent_check-cases : (f : ForeignKey) (event : Event) (view : Database) → Keys_rise view
+    → Has_parent f (key_in f.parent_cols event.old) view
+    ⊎ (Has_no_child f (key_in f.parent_cols event.old) view ⊎ (parent_check f event view ≡ Violated (Referenced f (key_in f.parent_cols event.old))))
+parent_check-cases f event view rise =
+    let key = key_in f.parent_cols event.old in
+    ⊎_elim (λ found. inl (Has_parent-found f key view rise found)) (λ missing. ⊎_elim
+    (λ child. inr (inr (
+    ap (λ b. cond b Passed (cond (has_child f key view) (Violated (Referenced f key)) Passed)) missing
+    ∙ ap (λ b. cond b (Violated (Referenced f key)) Passed) child)))
+    (λ free. inr (inl (record { none = passes_none (has_key f.child f.child_cols key) view free })))
+    (cases_Bool (has_child f key view))) (cases_Bool (has_parent f key view))
