@@ -1,6 +1,7 @@
 -- A database with what a transaction has written.
 use Rattle.std.proofs.Common.{◌≡◌, ◌≢◌, ℕ, ⊎_elim, [], ◌∷◌, Option, Some, None, refl, sym, ◌∙◌, ap}
 use Rattle.std.proofs.lemmas.Bool.{cases_eq}
+use Rattle.std.proofs.lemmas.Option.{none-some, same_Some}
 use Rattle.aq_base.specs.Values.{Row}
 use Rattle.aq_base.specs.Maps.{at, with_at}
 use Rattle.aq_base.specs.Databases.{Database, Stored}
@@ -11,6 +12,10 @@ use Rattle.aq_base.proofs.Maps.{Keys_rise, Adds, Removes, at-first, at-rest, at-
 abbrev pub stored_by : ℕ → ℕ → Option Row → Option Stored
 stored_by commit table None = None
 stored_by commit table (Some values) = Some (record { table = table; values = values; commit = commit })
+
+pub stored_by-image : (commit table : ℕ) (image : Option Row) (stored : Stored) → stored_by commit table image ≡ Some stored → image ≡ Some stored.values
+stored_by-image commit table None stored is = absurd (none-some stored is)
+stored_by-image commit table (Some values) stored is = ap (λ r. Some r.values) (same_Some (record { table = table; values = values; commit = commit }) stored is)
 
 -- the written version of a row, or the one that it had
 abbrev pub newest : ℕ → Option Write → Option Stored → Option Stored

@@ -1,5 +1,5 @@
 -- Look-ups in maps.
-use Rattle.std.proofs.Common.{◌≡◌, ◌≢◌, ℕ, ◌<◌, Bool, true, false, cond, not, T, ◌==◌, ◌&&◌, ◌⊎◌, inl, inr, ⊎_elim, List, [], ◌∷◌, Some, None, nat_cmp, refl, sym, ◌∙◌, ap, subst, arith, eqb-true}
+use Rattle.std.proofs.Common.{◌≡◌, ◌≢◌, ℕ, ◌<◌, Bool, true, false, cond, not, T, ◌==◌, ◌&&◌, ◌⊎◌, inl, inr, ⊎_elim, List, [], ◌∷◌, Some, None, Contains, nat_cmp, refl, sym, ◌∙◌, ap, subst, arith, eqb-true}
 use Rattle.std.specs.List.{list_any}
 use Rattle.std.specs.Ordering.{is_lt, is_eq}
 use Rattle.std.specs.Cmp.{unsigned_tied}
@@ -9,6 +9,7 @@ use Rattle.std.proofs.lemmas.Bool.{false≢true, cases_eq, eq-eqb, ne_eqb, or_pa
 use Rattle.std.proofs.lemmas.Bool.Decides.{nat_tests}
 use Rattle.std.proofs.lemmas.Option.{same_Some, none-some}
 use Rattle.aq_base.specs.Maps.{at, with_at, without}
+use Rattle.aq_base.proofs.Lists.{Contains-none, Contains-cons_cases}
 
 -- the keys rise, so that each stands once
 abbrev pub Keys_rise : {X : Type 0} → List (ℕ × X) → Type 0
@@ -105,6 +106,16 @@ at-first_alone entry entries rise = at-below entry.0 entries (parts _ _ rise).0
 
 pub Keys_rise-rest : {X : Type 0} (entry : ℕ × X) (entries : List (ℕ × X)) → Keys_rise (entry ∷ entries) → Keys_rise entries
 Keys_rise-rest entry entries rise = (parts _ _ rise).1
+
+-- each entry stands at its key
+pub at-Contains : {X : Type 0} (entry : ℕ × X) (entries : List (ℕ × X)) → Keys_rise entries → Contains entries entry → at entry.0 entries ≡ Some entry.1
+at-Contains entry [] rise c = absurd (Contains-none entry c)
+at-Contains entry (first ∷ entries) rise c =
+    ⊎_elim
+    (λ is. subst (λ e. at e.0 (first ∷ entries) ≡ Some e.1) is (at-first first entries))
+    (λ later. let stands = at-Contains entry entries (Keys_rise-rest first entries rise) later in
+    at-rest entry.0 first entries (λ same. none-some entry.1 (sym (at-first_alone first entries rise) ∙ ap (λ k. at k entries) (sym same) ∙ stands)) ∙ stands)
+    (Contains-cons_cases first entry entries c)
 
 -- a value that passes a test stands at some number
 pub record Passing {X : Type 0} (p : X → Bool) (entries : List (ℕ × X)) : Type 0 where

@@ -1,9 +1,9 @@
 -- When keys are the same.
-use Rattle.std.proofs.Common.{◌≡◌, true, false, [], ◌∷◌, refl, sym, ap}
+use Rattle.std.proofs.Common.{◌≡◌, true, false, not, [], ◌∷◌, refl, sym, ap}
 use Rattle.std.specs.Cmp.Lexicographic.{bytes_decides}
 use Rattle.std.proofs.lemmas.Bool.{false≢true, and_parts, and_from}
 use Rattle.std.proofs.lemmas.Bool.Decides.{Decides-int_eq}
-use Rattle.aq_base.specs.Values.{Row, values_match, keys_match}
+use Rattle.aq_base.specs.Values.{Row, is_null, values_match, keys_match, has_no_null}
 use Rattle.aq_base.specs.declared.value.Value.{Value}
 use Rattle.aq_base.specs.declared.value.Value.TheVariants.{Null, Bool as Truth, Int, Text}
 
@@ -61,3 +61,17 @@ keys_match-same (a ∷ as_) (b ∷ bs) same =
     let first = values_match-same a b parts.0 in
     let rest = keys_match-same as_ bs parts.1 in
     λ i. first i ∷ rest i
+
+values_match-self : (v : Value) → not (is_null v) ≡ true → values_match v v ≡ true
+values_match-self Null is = is
+values_match-self (Truth true) is = refl
+values_match-self (Truth false) is = refl
+values_match-self (Int n) is = (Decides-int_eq n n).1 refl
+values_match-self (Text t) is = (bytes_decides t t).1 refl
+
+-- a key with no null matches itself
+pub keys_match-self : (key : Row) → has_no_null key ≡ true → keys_match key key ≡ true
+keys_match-self [] none = refl
+keys_match-self (v ∷ vs) none =
+    let parts = and_parts _ _ none in
+    and_from _ _ (values_match-self v parts.0) (keys_match-self vs parts.1)

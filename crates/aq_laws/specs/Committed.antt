@@ -1,17 +1,18 @@
--- Every committed database keeps the references and the unique keys.
+-- Every committed database keeps the references, the unique keys and the columns without null.
 use Rattle.std.specs.Prelude.{◌≤◌, length, Contains}
 use Rattle.aq_base.specs.Catalogs.{Catalog}
 use Rattle.aq_base.specs.Databases.{Database}
-use Rattle.aq_base.specs.References.{References_hold, Keys_are_unique}
+use Rattle.aq_base.specs.References.{References_hold, Keys_are_unique, Not_null_holds}
 use Rattle.aq_base.specs.Setup.{Program, program_of}
 use Rattle.aq_base.specs.declared.script.Script.{Script}
 use Rattle.aq_run.specs.States.{State}
 use Rattle.aq_run.specs.Runs.{Schedule, Is_schedule, run}
 
--- a database has a parent for each reference, and no key twice
+-- a database has a parent for each reference, no key twice, and no null in a column that holds none
 pub record Database_stands (cat : Catalog) (db : Database) : Type 0 where
   pub references : References_hold cat.fks db
   pub keys : Keys_are_unique cat.keys db
+  pub not_null : Not_null_holds cat.tables db
 
 -- every database of the history does
 abbrev pub Databases_stand : Program → State → Type 0
