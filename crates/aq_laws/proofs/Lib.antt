@@ -5,3 +5,4 @@ pub mod Events
 pub mod Finite
 pub mod Default
 pub mod Invariants
+pub mod Works
