@@ -6,3 +6,5 @@ pub mod Finite
 pub mod Default
 pub mod Invariants
 pub mod Works
+pub mod Rounds
+pub mod Committed

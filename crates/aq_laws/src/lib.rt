@@ -1,8 +1,15 @@
 //! Laws over every run, whatever its schedule. Each is the contract of a function that does nothing.
 #![tactic(auto)]
 
+ghost use Rattle.aq_laws.specs.Committed.{Committed_databases_stand};
 ghost use Rattle.aq_laws.specs.Finite.{Runs_are_finite};
 ghost use Rattle.aq_laws.specs.Default.{Default_schedule_is_unique};
+
+/// With one session, at each moment of each run, every committed database has a parent for each reference, no two rows
+/// of a table with one unique key, and no null in a column that holds none.
+pub fn committed_databases_stand()
+    ensures { Committed_databases_stand }
+{}
 
 /// Every run ends: a program has a number of steps that no schedule of it exceeds.
 pub fn runs_are_finite()
