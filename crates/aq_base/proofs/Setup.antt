@@ -75,14 +75,14 @@ new_enforced : (triggers : List Trigger) (decl : Decl) (fk : ℕ) (f : ForeignKe
     → Is_enforced (triggers ++ record { table = f.parent; ops = On_update ∷ On_delete ∷ []; decl = decl; does = Parent fk }
     ∷ record { table = f.child; ops = On_insert ∷ On_update ∷ []; decl = decl; does = Check fk } ∷ []) fk f
 new_enforced triggers decl fk f =
-    let guard : Trigger = record { table = f.parent; ops = On_update ∷ On_delete ∷ []; decl = decl; does = Parent fk } in
+    let look : Trigger = record { table = f.parent; ops = On_update ∷ On_delete ∷ []; decl = decl; does = Parent fk } in
     let check : Trigger = record { table = f.child; ops = On_insert ∷ On_update ∷ []; decl = decl; does = Check fk } in
     record {
       decl = decl;
       of_child = record {
         number = suc (length triggers);
         trigger = check;
-        stands = slice_get-behind_next triggers guard check [];
+        stands = slice_get-behind_next triggers look check [];
         of_table = refl;
         with_ops = refl;
         with_decl = refl;
@@ -90,8 +90,8 @@ new_enforced triggers decl fk f =
       };
       of_parent = record {
         number = length triggers;
-        trigger = guard;
-        stands = slice_get-behind triggers guard (check ∷ []);
+        trigger = look;
+        stands = slice_get-behind triggers look (check ∷ []);
         of_table = refl;
         with_ops = refl;
         with_decl = refl;

@@ -1,5 +1,5 @@
 -- Every committed database keeps the references, the unique keys and the columns without null: each kind of step keeps what holds.
-use Rattle.std.proofs.Common.{◌≡◌, ℕ, zero, suc, ◌+◌, ◌<◌, ◌≤◌, ◌==◌, Bool, true, false, List, [], ◌∷◌, ◌++◌, length, map, filter, Option, Some, None, Contains, slice_set, slice_index_or, ⊎_elim, length-set, get_or-set_same, refl, sym, ◌∙◌, ap, subst, arith, append-nil, append_assoc, eqb-true}
+use Rattle.std.proofs.Common.{◌≡◌, ℕ, zero, suc, ◌+◌, ◌<◌, ◌≤◌, ◌==◌, Bool, true, false, List, [], ◌∷◌, ◌++◌, length, map, filter, Option, Some, None, slice_set, slice_index_or, ⊎_elim, length-set, get_or-set_same, refl, sym, ◌∙◌, ap, subst, arith, append-nil, append_assoc, eqb-true}
 use Rattle.std.proofs.lemmas.List.{length-map}
 use Rattle.std.proofs.lemmas.Bool.{true≢false}
 use Rattle.std.proofs.lemmas.Option.{none-some, same_Some}
@@ -8,7 +8,7 @@ use Rattle.aq_base.specs.Catalogs.{Catalog}
 use Rattle.aq_base.specs.Maps.{at, with_at}
 use Rattle.aq_base.specs.Databases.{Database, Stored, rows_of}
 use Rattle.aq_base.specs.Writes.{Writes}
-use Rattle.aq_base.specs.Works.{Event, Opened, Work}
+use Rattle.aq_base.specs.Works.{Event, Work}
 use Rattle.aq_base.specs.Works.Kind.{Level, Drain}
 use Rattle.aq_base.specs.Setup.{Program, program_of}
 use Rattle.aq_base.specs.declared.script.Bound.{Bound}
@@ -27,9 +27,8 @@ use Rattle.aq_run.specs.States.Target.{New_row, Old_row}
 use Rattle.aq_run.specs.States.Answer.{Committed}
 use Rattle.aq_run.specs.States.Task.{Rows, Rounds, Committing}
 use Rattle.aq_run.specs.Effects.{Scene, effect, effects}
-use Rattle.aq_run.specs.Effects.Effect.{Takes_statement, Goes_on}
 use Rattle.aq_run.specs.Steps.{Plan, old_rows, start_plan, insert_plan, delete_plan, rows_plan, answer_of, close_plan, take_plan, level_plan, event_plan, drain_plan, task_plan, effects_of_plan, effects_of, plan_of, statement_at, with_scene, step, is_enabled}
-use Rattle.aq_run.specs.Steps.Plan.{Does_all, Fails}
+use Rattle.aq_run.specs.Steps.Plan.{Fails}
 use Rattle.aq_run.specs.Runs.{Schedule, run_from, Can_run_from}
 use Rattle.aq_laws.specs.Committed.{Database_stands, Committed_databases_stand}
 use Rattle.aq_laws.proofs.Sessions.{Can_step-enabled}

@@ -54,5 +54,5 @@ event_plan-check cat world work event trigger fk f of_trigger checks key =
 pub event_plan-parent : (cat : Catalog) (world : World) (work : Work) (event : Event) (trigger : Trigger) (fk : ℕ) (f : ForeignKey)
     → slice_get cat.triggers event.trigger ≡ Some trigger → trigger.does ≡ Parent fk → slice_get cat.fks fk ≡ Some f
     → event_plan cat world work event ≡ check_plan (parent_check f event (latest_view world work))
-event_plan-parent cat world work event trigger fk f of_trigger guards key =
-    ap (on_trigger cat world work event) of_trigger ∙ ap (on_does cat world work event) guards ∙ ap (on_parent world work event) key
+event_plan-parent cat world work event trigger fk f of_trigger looks key =
+    ap (on_trigger cat world work event) of_trigger ∙ ap (on_does cat world work event) looks ∙ ap (on_parent world work event) key

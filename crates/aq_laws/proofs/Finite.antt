@@ -1,5 +1,5 @@
 -- Every run is finite.
-use Rattle.std.proofs.Common.{◌≡◌, ℕ, zero, suc, ◌+◌, ◌*◌, ◌<◌, ◌≤◌, true, false, cond, ◌==◌, List, [], ◌∷◌, ◌++◌, length, map, drop, filter, Option, Some, None, option_and_then, slice_get, slice_set, slice_index_or, sum_by, refl, sym, subst, ap, arith, length-append}
+use Rattle.std.proofs.Common.{◌≡◌, ℕ, zero, suc, ◌+◌, ◌*◌, ◌<◌, ◌≤◌, true, false, cond, ◌==◌, List, [], ◌∷◌, ◌++◌, length, map, drop, filter, Option, Some, None, option_and_then, slice_get, slice_set, sum_by, refl, sym, subst, ap, arith, length-append}
 use Rattle.std.proofs.lemmas.List.{length-map}
 use Rattle.std.proofs.lemmas.List.Sums.{sum_by-cons, sum_by-le-sum_by}
 use Rattle.std.proofs.lemmas.List.Filters.{length-filter_both}
@@ -19,17 +19,16 @@ use Rattle.aq_base.specs.declared.script.Bound.{Bound}
 use Rattle.aq_base.specs.declared.script.Bound.TheVariants.{InsertRows, DeleteRows, BeginBlock, CommitBlock, RollbackBlock}
 use Rattle.aq_outcomes.specs.Faults.{Fault}
 use Rattle.aq_outcomes.specs.Rows.{fires_on, firing_from, insert_events, delete_events, insert_fault, is_deferred, is_immediate}
-use Rattle.aq_run.specs.States.{Operation, Target, Answer, Block, Task, Transaction, Session, World, State, opening, nobody, session_at, last_database, latest_view}
+use Rattle.aq_run.specs.States.{Operation, Target, Answer, Block, Task, Transaction, Session, Given, World, State, opening, session_at, last_database, latest_view}
 use Rattle.aq_run.specs.States.Block.{Idle, Open, Failed}
 use Rattle.aq_run.specs.States.Operation.{Inserting, Deleting}
 use Rattle.aq_run.specs.States.Target.{New_row, Old_row}
 use Rattle.aq_run.specs.States.Task.{Rows, Rounds, Committing}
 use Rattle.aq_run.specs.Effects.{Scene, on_top, with_events, effect, effects}
-use Rattle.aq_run.specs.Effects.Effect.{Takes_statement}
 use Rattle.aq_run.specs.Steps.{Plan, dropped, view_of, old_rows, rows_start, begin_plan, commit_plan, rollback_plan, start_plan, answer_of, statement_at, task_plan, rows_plan, insert_plan, delete_plan, close_plan, take_plan, on_level, level_plan, event_plan, drain_plan, on_drain, effects_of_plan, effects_of, plan_of, step, is_enabled}
-use Rattle.aq_run.specs.Steps.Plan.{Does_all, Fails}
+use Rattle.aq_run.specs.Steps.Plan.{Fails}
 use Rattle.aq_run.specs.Runs.{Schedule, Can_run_from}
-use Rattle.aq_laws.specs.Finite.{over_sessions, transaction_rows, statement_rows, task_rows, session_rows, rows_at_most, row_steps, statement_steps, task_steps, level_steps, transaction_steps, session_steps, steps_left, Runs_are_finite}
+use Rattle.aq_laws.specs.Finite.{transaction_rows, statement_rows, task_rows, session_rows, rows_at_most, row_steps, statement_steps, task_steps, level_steps, transaction_steps, session_steps, steps_left, Runs_are_finite}
 use Rattle.aq_laws.proofs.Lists.{sum_by-drop, length-filter-le, last_of-push}
 use Rattle.aq_laws.proofs.Sizes.{length-overlay, written_rows-with_at, script_of, over_sessions-set, over_sessions-one, over_sessions-le}
 use Rattle.aq_laws.proofs.Events.{Ends_event, Ends_event-event_plan}
@@ -77,68 +76,47 @@ module _ (cat : Catalog) (world : World) (s : ℕ) (statements : List Bound) (at
 
   -- ---- start
 
+  -- a statement is taken, and what it leaves in progress costs less than it did
+  takes : (next : ℕ) (block block_after : Block) (transaction transaction_after : Option Transaction) (tasks : List Task) (replies : List Given) (statement : Bound)
+      → slice_get statements next ≡ Some statement
+      → sum_by (task_steps cat) tasks + transaction_steps transaction_after < statement_steps cat at_most statement + transaction_steps transaction
+      → sum_by task_rows tasks + transaction_rows transaction_after ≤ statement_rows statement + transaction_rows transaction
+      → Falls_to (going next block transaction []) (record { world = record world { replies = replies }; me = going (next + 1) block_after transaction_after tasks })
+  takes next block block_after transaction transaction_after tasks replies statement e few rows =
+      record {
+        steps = omega (arith, sum_by-drop (statement_steps cat at_most) statements next statement e);
+        rows = omega (arith, sum_by-drop statement_rows statements next statement e);
+      }
+
   rows_start_falls : (next : ℕ) (block : Block) (transaction : Option Transaction) (statement : Bound) (operation : Operation) (targets : List Target)
       → slice_get statements next ≡ Some statement → 3 + length targets * row_steps cat < statement_steps cat at_most statement → task_rows (Rows operation targets 0) ≤ statement_rows statement
       → Falls (going next block transaction []) (rows_start block operation targets)
   unfolding effect
-  rows_start_falls next Idle None statement operation targets e few rows =
-      record {
-        steps = omega (arith, sum_by-drop (statement_steps cat at_most) statements next statement e);
-        rows = omega (arith, sum_by-drop statement_rows statements next statement e);
-      }
-  rows_start_falls next Idle (Some t) statement operation targets e few rows =
-      record {
-        steps = omega (arith, sum_by-drop (statement_steps cat at_most) statements next statement e);
-        rows = omega (arith, sum_by-drop statement_rows statements next statement e);
-      }
-  rows_start_falls next Open None statement operation targets e few rows =
-      record {
-        steps = omega (arith, sum_by-drop (statement_steps cat at_most) statements next statement e);
-        rows = omega (arith, sum_by-drop statement_rows statements next statement e);
-      }
+  rows_start_falls next Idle transaction statement operation targets e few rows = takes next _ _ transaction _ _ _ statement e (omega arith) (omega arith)
+  rows_start_falls next Open None statement operation targets e few rows = takes next _ _ None _ _ _ statement e (omega arith) (omega arith)
   rows_start_falls next Open (Some t) statement operation targets e few rows =
-      record {
-        steps = omega (arith, sum_by-drop (statement_steps cat at_most) statements next statement e, sum_by-cons level_steps (record { kind = Level; queued = []; round = [] }) t.work.opened);
-        rows = omega (arith, sum_by-drop statement_rows statements next statement e);
-      }
-  rows_start_falls next Failed transaction statement operation targets e few rows =
-      record {
-        steps = omega (arith, sum_by-drop (statement_steps cat at_most) statements next statement e);
-        rows = omega (arith, sum_by-drop statement_rows statements next statement e);
-      }
+      takes next _ _ (Some t) _ _ _ statement e (omega (arith, sum_by-cons level_steps (record { kind = Level; queued = []; round = [] }) t.work.opened)) (omega arith)
+  rows_start_falls next Failed transaction statement operation targets e few rows = takes next _ _ transaction _ _ _ statement e (omega arith) (omega arith)
 
-  -- the same session, its next statement taken and its transaction dropped or not
   begin_falls : (next : ℕ) (block : Block) (transaction : Option Transaction) → slice_get statements next ≡ Some BeginBlock → Falls (going next block transaction []) (begin_plan block)
   unfolding effect
-  begin_falls next Idle transaction e =
-      record { steps = omega (arith, sum_by-drop (statement_steps cat at_most) statements next BeginBlock e); rows = omega (arith, sum_by-drop statement_rows statements next BeginBlock e) }
-  begin_falls next Open transaction e =
-      record { steps = omega (arith, sum_by-drop (statement_steps cat at_most) statements next BeginBlock e); rows = omega (arith, sum_by-drop statement_rows statements next BeginBlock e) }
-  begin_falls next Failed transaction e =
-      record { steps = omega (arith, sum_by-drop (statement_steps cat at_most) statements next BeginBlock e); rows = omega (arith, sum_by-drop statement_rows statements next BeginBlock e) }
+  begin_falls next Idle transaction e = takes next _ _ transaction _ _ _ BeginBlock e (omega arith) (omega arith)
+  begin_falls next Open transaction e = takes next _ _ transaction _ _ _ BeginBlock e (omega arith) (omega arith)
+  begin_falls next Failed transaction e = takes next _ _ transaction _ _ _ BeginBlock e (omega arith) (omega arith)
 
   commit_falls : (next : ℕ) (block : Block) (transaction : Option Transaction) → slice_get statements next ≡ Some CommitBlock → Falls (going next block transaction []) (commit_plan block)
   unfolding effect
-  commit_falls next Idle transaction e =
-      record { steps = omega (arith, sum_by-drop (statement_steps cat at_most) statements next CommitBlock e); rows = omega (arith, sum_by-drop statement_rows statements next CommitBlock e) }
-  commit_falls next Open None e =
-      record { steps = omega (arith, sum_by-drop (statement_steps cat at_most) statements next CommitBlock e); rows = omega (arith, sum_by-drop statement_rows statements next CommitBlock e) }
+  commit_falls next Idle transaction e = takes next _ _ transaction _ _ _ CommitBlock e (omega arith) (omega arith)
+  commit_falls next Open None e = takes next _ _ None _ _ _ CommitBlock e (omega arith) (omega arith)
   commit_falls next Open (Some t) e =
-      record {
-        steps = omega (arith, sum_by-drop (statement_steps cat at_most) statements next CommitBlock e, sum_by-cons level_steps (record { kind = Drain; queued = []; round = [] }) t.work.opened);
-        rows = omega (arith, sum_by-drop statement_rows statements next CommitBlock e);
-      }
-  commit_falls next Failed transaction e =
-      record { steps = omega (arith, sum_by-drop (statement_steps cat at_most) statements next CommitBlock e); rows = omega (arith, sum_by-drop statement_rows statements next CommitBlock e) }
+      takes next _ _ (Some t) _ _ _ CommitBlock e (omega (arith, sum_by-cons level_steps (record { kind = Drain; queued = []; round = [] }) t.work.opened)) (omega arith)
+  commit_falls next Failed transaction e = takes next _ _ transaction _ _ _ CommitBlock e (omega arith) (omega arith)
 
   rollback_falls : (next : ℕ) (block : Block) (transaction : Option Transaction) → slice_get statements next ≡ Some RollbackBlock → Falls (going next block transaction []) (rollback_plan block)
   unfolding effect
-  rollback_falls next Idle transaction e =
-      record { steps = omega (arith, sum_by-drop (statement_steps cat at_most) statements next RollbackBlock e); rows = omega (arith, sum_by-drop statement_rows statements next RollbackBlock e) }
-  rollback_falls next Open transaction e =
-      record { steps = omega (arith, sum_by-drop (statement_steps cat at_most) statements next RollbackBlock e); rows = omega (arith, sum_by-drop statement_rows statements next RollbackBlock e) }
-  rollback_falls next Failed transaction e =
-      record { steps = omega (arith, sum_by-drop (statement_steps cat at_most) statements next RollbackBlock e); rows = omega (arith, sum_by-drop statement_rows statements next RollbackBlock e) }
+  rollback_falls next Idle transaction e = takes next _ _ transaction _ _ _ RollbackBlock e (omega arith) (omega arith)
+  rollback_falls next Open transaction e = takes next _ _ transaction _ _ _ RollbackBlock e (omega arith) (omega arith)
+  rollback_falls next Failed transaction e = takes next _ _ transaction _ _ _ RollbackBlock e (omega arith) (omega arith)
 
   start_falls : (next : ℕ) (block : Block) (transaction : Option Transaction) (statement : Option Bound) → length (view_of world transaction) ≤ at_most → slice_get statements next ≡ statement
       → Falls (going next block transaction []) (start_plan world (going next block transaction []) statement)
@@ -181,8 +159,12 @@ module _ (cat : Catalog) (world : World) (s : ℕ) (statements : List Bound) (at
       let write : Write = record { table = table; image = Some values; number = world.writes + 1 } in
       record {
         steps = omega (arith, sum_by-cons (task_steps cat) (Rows (Inserting table) (New_row values ∷ left) count) below, sum_by-cons (task_steps cat) (Rows (Inserting table) left (count + 1)) below);
-        rows = omega (arith, sum_by-cons task_rows (Rows (Inserting table) (New_row values ∷ left) count) below, sum_by-cons task_rows (Rows (Inserting table) left (count + 1)) below,
-            written_rows-with_at (world.rows + 1) write t.work.writes);
+        rows = omega (
+          arith,
+          sum_by-cons task_rows (Rows (Inserting table) (New_row values ∷ left) count) below,
+          sum_by-cons task_rows (Rows (Inserting table) left (count + 1)) below,
+          written_rows-with_at (world.rows + 1) write t.work.writes,
+        );
       }
   insert_falls next block t table values left count below (Some fault) = fails_falls next block (Some t) (Rows (Inserting table) (New_row values ∷ left) count) below fault
 
@@ -201,8 +183,12 @@ module _ (cat : Catalog) (world : World) (s : ℕ) (statements : List Bound) (at
       let write : Write = record { table = table; image = None; number = world.writes + 1 } in
       record {
         steps = omega (arith, sum_by-cons (task_steps cat) (Rows (Deleting table) (Old_row row ∷ left) count) below, sum_by-cons (task_steps cat) (Rows (Deleting table) left (count + 1)) below);
-        rows = omega (arith, sum_by-cons task_rows (Rows (Deleting table) (Old_row row ∷ left) count) below, sum_by-cons task_rows (Rows (Deleting table) left (count + 1)) below,
-            written_rows-with_at row write t.work.writes);
+        rows = omega (
+          arith,
+          sum_by-cons task_rows (Rows (Deleting table) (Old_row row ∷ left) count) below,
+          sum_by-cons task_rows (Rows (Deleting table) left (count + 1)) below,
+          written_rows-with_at row write t.work.writes,
+        );
       }
 
   rows_falls : (next : ℕ) (block : Block) (transaction : Option Transaction) (operation : Operation) (left : List Target) (count : ℕ) (below : List Task)
@@ -254,20 +240,37 @@ module _ (cat : Catalog) (world : World) (s : ℕ) (statements : List Bound) (at
   unfolding effect
   close_falls next Idle writes deferred kind queued levels answer below =
       record {
-        steps = omega (arith, sum_by-cons level_steps (record { kind = kind; queued = queued; round = [] }) levels, sum_by-cons level_steps (record { kind = Drain; queued = []; round = [] }) levels,
-            sum_by-cons (task_steps cat) (Rounds answer) below, sum_by-cons (task_steps cat) (Committing answer) below, length-append deferred (filter (is_deferred cat) queued), length-filter-le (is_deferred cat) queued);
+        steps = omega (
+          arith,
+          sum_by-cons level_steps (record { kind = kind; queued = queued; round = [] }) levels,
+          sum_by-cons level_steps (record { kind = Drain; queued = []; round = [] }) levels,
+          sum_by-cons (task_steps cat) (Rounds answer) below,
+          sum_by-cons (task_steps cat) (Committing answer) below,
+          length-append deferred (filter (is_deferred cat) queued),
+          length-filter-le (is_deferred cat) queued,
+        );
         rows = omega (arith, sum_by-cons task_rows (Rounds answer) below, sum_by-cons task_rows (Committing answer) below);
       }
   close_falls next Open writes deferred kind queued levels answer below =
       record {
-        steps = omega (arith, sum_by-cons level_steps (record { kind = kind; queued = queued; round = [] }) levels,
-            sum_by-cons (task_steps cat) (Rounds answer) below, length-append deferred (filter (is_deferred cat) queued), length-filter-le (is_deferred cat) queued);
+        steps = omega (
+          arith,
+          sum_by-cons level_steps (record { kind = kind; queued = queued; round = [] }) levels,
+          sum_by-cons (task_steps cat) (Rounds answer) below,
+          length-append deferred (filter (is_deferred cat) queued),
+          length-filter-le (is_deferred cat) queued,
+        );
         rows = omega (arith, sum_by-cons task_rows (Rounds answer) below);
       }
   close_falls next Failed writes deferred kind queued levels answer below =
       record {
-        steps = omega (arith, sum_by-cons level_steps (record { kind = kind; queued = queued; round = [] }) levels,
-            sum_by-cons (task_steps cat) (Rounds answer) below, length-append deferred (filter (is_deferred cat) queued), length-filter-le (is_deferred cat) queued);
+        steps = omega (
+          arith,
+          sum_by-cons level_steps (record { kind = kind; queued = queued; round = [] }) levels,
+          sum_by-cons (task_steps cat) (Rounds answer) below,
+          length-append deferred (filter (is_deferred cat) queued),
+          length-filter-le (is_deferred cat) queued,
+        );
         rows = omega (arith, sum_by-cons task_rows (Rounds answer) below);
       }
 
@@ -279,8 +282,13 @@ module _ (cat : Catalog) (world : World) (s : ℕ) (statements : List Bound) (at
   take_falls next block writes deferred kind queued levels answer below (event ∷ events) e =
       let taken : length (filter (is_immediate cat) queued) ≡ suc (length events) = ap length e in
       record {
-        steps = omega (arith, sum_by-cons level_steps (record { kind = kind; queued = queued; round = [] }) levels, sum_by-cons level_steps (record { kind = kind; queued = []; round = filter (is_immediate cat) queued }) levels,
-            length-append deferred (filter (is_deferred cat) queued), length-filter_both (is_deferred cat) (is_immediate cat) (λ one. refl) queued);
+        steps = omega (
+          arith,
+          sum_by-cons level_steps (record { kind = kind; queued = queued; round = [] }) levels,
+          sum_by-cons level_steps (record { kind = kind; queued = []; round = filter (is_immediate cat) queued }) levels,
+          length-append deferred (filter (is_deferred cat) queued),
+          length-filter_both (is_deferred cat) (is_immediate cat) (λ one. refl) queued,
+        );
         rows = omega arith;
       }
 

@@ -6,7 +6,7 @@ use Rattle.aq_base.specs.Catalogs.{Catalog}
 use Rattle.aq_base.specs.Databases.{Database, Stored}
 use Rattle.aq_base.specs.References.{Has_parent, Keys_are_unique, Not_null_holds}
 use Rattle.aq_base.specs.Writes.{Write, Writes, overlay}
-use Rattle.aq_base.specs.Works.{Event, Kind, Opened}
+use Rattle.aq_base.specs.Works.{Event, Opened}
 use Rattle.aq_base.specs.Works.Kind.{Level, Drain}
 use Rattle.aq_base.specs.declared.catalog.ForeignKey.{ForeignKey}
 use Rattle.aq_base.specs.declared.catalog.Trigger.{Trigger}
@@ -52,7 +52,7 @@ pub record Parent_waits (cat : Catalog) (fk : ℕ) (f : ForeignKey) (key : Row) 
   pub waits : Contains events event
   pub trigger : Trigger
   pub of_trigger : slice_get cat.triggers event.trigger ≡ Some trigger
-  pub guards : trigger.does ≡ Parent fk
+  pub looks : trigger.does ≡ Parent fk
   pub old_key : key_in f.parent_cols event.old ≡ key
 
 -- the reference of a row by a key has its parent, or an event that is still to fire refuses what lacks it

@@ -1,10 +1,10 @@
 -- Events that are taken as a round, and those that wait for the commit.
-use Rattle.std.proofs.Common.{◌≡◌, true, false, not, ◌⊎◌, inl, inr, ⊎_elim, List, [], ◌∷◌, ◌++◌, filter, Contains, sym, ◌∙◌, ap, subst, append-nil}
+use Rattle.std.proofs.Common.{◌≡◌, not, ◌⊎◌, inl, inr, ⊎_elim, List, [], ◌++◌, filter, Contains, ap, subst, append-nil}
 use Rattle.std.proofs.lemmas.Bool.{cases_Bool}
 use Rattle.std.proofs.lemmas.List.Elements.{Contains-append_left, Contains-append_right, Contains-append_cases}
 use Rattle.aq_base.specs.Catalogs.{Catalog}
 use Rattle.aq_base.specs.Works.{Event}
-use Rattle.aq_base.proofs.Lists.{Contains-none, Contains-filter, Contains-filter_from}
+use Rattle.aq_base.proofs.Lists.{Contains-filter, Contains-filter_from}
 use Rattle.aq_outcomes.specs.Rows.{is_deferred, is_immediate}
 use Rattle.aq_laws.proofs.Works.{Same_events}
 

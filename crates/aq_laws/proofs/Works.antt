@@ -1,5 +1,5 @@
 -- What each kind of step does to a transaction's work.
-use Rattle.std.proofs.Common.{◌≡◌, ◌≢◌, ℕ, ◌+◌, ◌≤◌, true, false, inl, inr, ⊎_elim, List, [], ◌∷◌, ◌++◌, length, filter, Option, Some, None, slice_get, Contains, refl, sym, ◌∙◌, ap, subst, arith, append-nil, le_of_eq, eqb-true}
+use Rattle.std.proofs.Common.{◌≡◌, ◌≢◌, ℕ, ◌+◌, ◌≤◌, true, false, ⊎_elim, List, [], ◌∷◌, ◌++◌, length, Option, Some, None, slice_get, Contains, refl, sym, ◌∙◌, ap, subst, arith, le_of_eq, eqb-true}
 use Rattle.std.specs.List.{list_any}
 use Rattle.std.proofs.lemmas.Option.{none-some, same_Some}
 use Rattle.std.proofs.lemmas.Bool.{false≢true, and_parts, and_from, eq-eqb, cases_eq}
@@ -57,7 +57,7 @@ check_among cat fk row writes events others waits c =
 
 parent_among : (cat : Catalog) (fk : ℕ) (f : ForeignKey) (key : Row) (events others : List Event) → (waits : Parent_waits cat fk f key events) → Contains others waits.event → Parent_waits cat fk f key others
 parent_among cat fk f key events others waits c =
-    record { event = waits.event; waits = c; trigger = waits.trigger; of_trigger = waits.of_trigger; guards = waits.guards; old_key = waits.old_key }
+    record { event = waits.event; waits = c; trigger = waits.trigger; of_trigger = waits.of_trigger; looks = waits.looks; old_key = waits.old_key }
 
 -- two lists have the same events
 pub record Same_events (events others : List Event) : Type 0 where
@@ -254,17 +254,17 @@ parent_is_queued : (cat : Catalog) (table row number : ℕ) (stored : Stored) (e
     → (fk : ℕ) (f : ForeignKey) (key : Row) → slice_get cat.fks fk ≡ Some f → has_key f.parent f.parent_cols key stored ≡ true
     → Parent_waits cat fk f key (events ++ delete_events cat table row number stored.values)
 parent_is_queued cat table row number stored events enforced in_table fk f key is_fk has =
-    let guard = (enforced fk f is_fk).of_parent in
+    let look = (enforced fk f is_fk).of_parent in
     let parts = and_parts _ _ has in
-    let event : Event = record { trigger = guard.number; row = row; write = number; old = Some stored.values; new = None } in
-    let fires : fires_on table Delete guard.trigger ≡ true =
-    and_from _ _ (eq-eqb guard.trigger.table table (guard.of_table ∙ sym (eqb-true stored.table f.parent parts.0) ∙ in_table)) (ap (list_any (same_op Delete)) guard.with_ops) in
+    let event : Event = record { trigger = look.number; row = row; write = number; old = Some stored.values; new = None } in
+    let fires : fires_on table Delete look.trigger ≡ true =
+    and_from _ _ (eq-eqb look.trigger.table table (look.of_table ∙ sym (eqb-true stored.table f.parent parts.0) ∙ in_table)) (ap (list_any (same_op Delete)) look.with_ops) in
     record {
       event = event;
-      waits = Contains-append_right events (delete_events cat table row number stored.values) event (Contains-delete_events cat table row number stored.values guard.number guard.trigger guard.stands fires);
-      trigger = guard.trigger;
-      of_trigger = guard.stands;
-      guards = guard.with_does;
+      waits = Contains-append_right events (delete_events cat table row number stored.values) event (Contains-delete_events cat table row number stored.values look.number look.trigger look.stands fires);
+      trigger = look.trigger;
+      of_trigger = look.stands;
+      looks = look.with_does;
       old_key = keys_match-same (values_at f.parent_cols stored.values) key parts.1;
     }
 
@@ -343,13 +343,13 @@ deletes cat history rows numbers writes events table row stored enforced stands 
 -- ---- event
 
 -- the check that is done has found the row's parent
-now_checked : (cat : Catalog) (world : World) (work : Work) (event : Event) (events : List Event)
+check_done : (cat : Catalog) (world : World) (work : Work) (event : Event) (events : List Event)
     → Keys_rise (last_of world.history) → Work_stands cat world.history world.rows world.writes work.writes events → Contains events event
     → event_plan cat world work event ≡ Does_all (Finishes ∷ [])
     → (fk : ℕ) (f : ForeignKey) (row : ℕ) (child : Stored) → Refers cat (view_of world.history work.writes) fk f row child
     → (waits : Check_waits cat fk row work.writes events) → event ≡ waits.event
     → Has_parent f (values_at f.child_cols child.values) (view_of world.history work.writes)
-now_checked cat world work event events rise stands c done fk f row child refers waits same =
+check_done cat world work event events rise stands c done fk f row child refers waits same =
     let commit = length world.history in
     let view = view_of world.history work.writes in
     let fits = stands.fit event c in
@@ -374,15 +374,15 @@ not_without_child f key view row child stands in_child no_null same none =
     false≢true (sym (none.none row child stands) ∙ and_from _ _ (eq-eqb child.table f.child in_child) (ap (keys_match own) same ∙ keys_match-self own no_null))
 
 -- the look for children that is done has found another parent
-now_guarded : (cat : Catalog) (world : World) (work : Work) (event : Event) (events : List Event)
+look_done : (cat : Catalog) (world : World) (work : Work) (event : Event) (events : List Event)
     → Keys_rise (last_of world.history) → event_plan cat world work event ≡ Does_all (Finishes ∷ [])
     → (fk : ℕ) (f : ForeignKey) (row : ℕ) (child : Stored) → Refers cat (view_of world.history work.writes) fk f row child
     → (waits : Parent_waits cat fk f (values_at f.child_cols child.values) events) → event ≡ waits.event
     → Has_parent f (values_at f.child_cols child.values) (view_of world.history work.writes)
-now_guarded cat world work event events rise done fk f row child refers waits same =
+look_done cat world work event events rise done fk f row child refers waits same =
     let view = view_of world.history work.writes in
     let key : key_in f.parent_cols event.old ≡ values_at f.child_cols child.values = ap (λ e. key_in f.parent_cols e.old) same ∙ waits.old_key in
-    let plan = event_plan-parent cat world work event waits.trigger fk f (ap (λ e. slice_get cat.triggers e.trigger) same ∙ waits.of_trigger) waits.guards refers.key in
+    let plan = event_plan-parent cat world work event waits.trigger fk f (ap (λ e. slice_get cat.triggers e.trigger) same ∙ waits.of_trigger) waits.looks refers.key in
     ⊎_elim
     (λ parent. subst (λ k. Has_parent f k view) key parent)
     (λ others. ⊎_elim
@@ -415,12 +415,12 @@ finishes cat world work event events rise stands done =
     kept fk f row child refers (Covered parent) = Covered parent
     kept fk f row child refers (Check_to_come waits) =
         ⊎_elim
-        (λ first. Covered (now_checked cat world work event (event ∷ events) rise stands (Contains-first event events) done fk f row child refers waits first))
+        (λ first. Covered (check_done cat world work event (event ∷ events) rise stands (Contains-first event events) done fk f row child refers waits first))
         (λ later. Check_to_come (check_among cat fk row work.writes (event ∷ events) events waits later))
         (Contains-cons_cases event waits.event events waits.waits)
     kept fk f row child refers (Parent_to_come waits) =
         ⊎_elim
-        (λ first. Covered (now_guarded cat world work event (event ∷ events) rise done fk f row child refers waits first))
+        (λ first. Covered (look_done cat world work event (event ∷ events) rise done fk f row child refers waits first))
         (λ later. Parent_to_come (parent_among cat fk f (values_at f.child_cols child.values) (event ∷ events) events waits later))
         (Contains-cons_cases event waits.event events waits.waits)
 
