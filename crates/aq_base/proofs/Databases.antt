@@ -1,5 +1,5 @@
 -- A database with what a transaction has written.
-use Rattle.std.proofs.Common.{◌≡◌, ◌≢◌, ℕ, ⊎_elim, [], ◌∷◌, Option, Some, None, refl, sym, ◌∙◌, ap}
+use Rattle.std.proofs.Common.{◌≡◌, ℕ, ◌⊎◌, inl, inr, ◌≢◌, [], ◌∷◌, Option, Some, None, refl, sym, ◌∙◌, ap}
 use Rattle.std.proofs.lemmas.Bool.{cases_eq}
 use Rattle.std.proofs.lemmas.Option.{none-some, same_Some}
 use Rattle.aq_base.specs.Values.{Row}
@@ -41,14 +41,21 @@ Keys_rise-overlay commit (entry ∷ writes) db rise =
 
 pub at-overlay : (commit : ℕ) (writes : Writes) (db : Database) (q : ℕ) → Keys_rise writes → at q (overlay commit writes db) ≡ newest commit (at q writes) (at q db)
 at-overlay commit [] db q rise = refl
-at-overlay commit (entry ∷ writes) db q rise =
-    let after = with_image commit entry.0 entry.1.table entry.1.image db in
-    let step = at-overlay commit writes after q (Keys_rise-rest entry writes rise) in
-    ⊎_elim
-    (λ same. step ∙ ap (λ w. newest commit w (at q after)) (ap (λ k. at k writes) same ∙ at-first_alone entry writes rise)
-    ∙ ap (λ k. at k after) same ∙ at-with_image_same commit entry.0 entry.1.table entry.1.image db ∙ sym (ap (λ w. newest commit w (at q db)) (ap (λ k. at k (entry ∷ writes)) same ∙ at-first entry writes)))
-    (λ other. step ∙ ap (newest commit (at q writes)) (at-with_image_other q commit entry.0 entry.1.table entry.1.image db other) ∙ sym (ap (λ w. newest commit w (at q db)) (at-rest q entry writes other)))
-    (cases_eq q entry.0)
+at-overlay commit (entry ∷ writes) db q rise = by_key (cases_eq q entry.0) (at-overlay commit writes with_first q (Keys_rise-rest entry writes rise))
+  where
+    with_first : Database
+    with_first = with_image commit entry.0 entry.1.table entry.1.image db
+
+    by_key : (q ≡ entry.0) ⊎ (q ≢ entry.0) → at q (overlay commit writes with_first) ≡ newest commit (at q writes) (at q with_first)
+        → at q (overlay commit writes with_first) ≡ newest commit (at q (entry ∷ writes)) (at q db)
+    by_key (inl same) rest =
+        let gone : at q writes ≡ None = ap (λ k. at k writes) same ∙ at-first_alone entry writes rise in
+        let placed : at q with_first ≡ stored_by commit entry.1.table entry.1.image = ap (λ k. at k with_first) same ∙ at-with_image_same commit entry.0 entry.1.table entry.1.image db in
+        let first : at q (entry ∷ writes) ≡ Some entry.1 = ap (λ k. at k (entry ∷ writes)) same ∙ at-first entry writes in
+        rest ∙ ap (λ w. newest commit w (at q with_first)) gone ∙ placed ∙ sym (ap (λ w. newest commit w (at q db)) first)
+    by_key (inr other) rest =
+        let stays = at-with_image_other q commit entry.0 entry.1.table entry.1.image db other in
+        rest ∙ ap (newest commit (at q writes)) stays ∙ sym (ap (λ w. newest commit w (at q db)) (at-rest q entry writes other))
 
 -- a new row of the writes is a new row of what the transaction sees
 pub Adds-overlay : (commit n table number : ℕ) (values : Row) (writes : Writes) (db : Database) → Keys_rise writes → at n writes ≡ None → at n db ≡ None

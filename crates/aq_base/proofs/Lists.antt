@@ -63,39 +63,46 @@ slice_get-push_cases (z ∷ xs) y (suc n) x e = ⊎_elim (λ old. inl old) (λ n
 -- an element that passes a test stays in what the test keeps
 pub Contains-filter : {X : Type 0} (test : X → Bool) (xs : List X) (x : X) → Contains xs x → test x ≡ true → Contains (filter test xs) x
 Contains-filter test [] x c passes = absurd (Contains-none x c)
-Contains-filter test (y ∷ xs) x c passes =
-    ⊎_elim
-    (λ first. subst (λ b. Contains (cond b (y ∷ filter test xs) (filter test xs)) x) (sym (ap test first ∙ passes)) (subst (Contains (y ∷ filter test xs)) first (Contains-first y (filter test xs))))
-    (λ later. let rest = Contains-filter test xs x later passes in
-    elim (test y) as (λ b. Contains (cond b (y ∷ filter test xs) (filter test xs)) x) [ true ↦ Contains-later y x (filter test xs) rest | false ↦ rest ])
-    (Contains-cons_cases y x xs c)
+Contains-filter test (y ∷ xs) x c passes = by_place (Contains-cons_cases y x xs c) (λ later. Contains-filter test xs x later passes)
+  where
+    later_one : (b : Bool) → Contains (filter test xs) x → Contains (cond b (y ∷ filter test xs) (filter test xs)) x
+    later_one true rest = Contains-later y x (filter test xs) rest
+    later_one false rest = rest
 
--- what a test keeps was there
-pub Contains-filter_from : {X : Type 0} (test : X → Bool) (xs : List X) (x : X) → Contains (filter test xs) x → Contains xs x
-Contains-filter_from test [] x c = absurd (Contains-none x c)
-Contains-filter_from test (y ∷ xs) x c =
-    (elim (test y) as (λ b. Contains (cond b (y ∷ filter test xs) (filter test xs)) x → Contains (y ∷ xs) x) [
-      | true ↦ λ kept. ⊎_elim (λ first. subst (Contains (y ∷ xs)) first (Contains-first y xs)) (λ later. Contains-later y x xs (Contains-filter_from test xs x later)) (Contains-cons_cases y x (filter test xs) kept)
-      | false ↦ λ kept. Contains-later y x xs (Contains-filter_from test xs x kept)
-    ]) c
+    by_place : (y ≡ x) ⊎ Contains xs x → (Contains xs x → Contains (filter test xs) x) → Contains (filter test (y ∷ xs)) x
+    by_place (inl first) rest =
+        subst (λ b. Contains (cond b (y ∷ filter test xs) (filter test xs)) x) (sym (ap test first ∙ passes)) (subst (Contains (y ∷ filter test xs)) first (Contains-first y (filter test xs)))
+    by_place (inr later) rest = later_one (test y) (rest later)
 
--- what a test keeps passes it
-pub filter_passes : {X : Type 0} (test : X → Bool) (xs : List X) (x : X) → Contains (filter test xs) x → test x ≡ true
-filter_passes test [] x c = absurd (Contains-none x c)
-filter_passes test (y ∷ xs) x c =
-    (elim (test y) as (λ b. test y ≡ b → Contains (cond b (y ∷ filter test xs) (filter test xs)) x → test x ≡ true) [
-      | true ↦ λ passes kept. ⊎_elim (λ first. ap test (sym first) ∙ passes) (λ later. filter_passes test xs x later) (Contains-cons_cases y x (filter test xs) kept)
-      | false ↦ λ fails kept. filter_passes test xs x kept
-    ]) refl c
+-- an element of what a test keeps
+pub record Kept {X : Type 0} (test : X → Bool) (xs : List X) (x : X) : Type 0 where
+  pub was : Contains xs x
+  pub passes : test x ≡ true
+
+pub Kept-filter : {X : Type 0} (test : X → Bool) (xs : List X) (x : X) → Contains (filter test xs) x → Kept test xs x
+Kept-filter test [] x c = absurd (Contains-none x c)
+Kept-filter {X} test (y ∷ xs) x c = by_test (test y) refl c (λ kept. Kept-filter test xs x kept)
+  where
+    later_one : Kept test xs x → Kept test (y ∷ xs) x
+    later_one kept = record { was = Contains-later y x xs kept.was; passes = kept.passes }
+
+    by_place : test y ≡ true → (y ≡ x) ⊎ Contains (filter test xs) x → (Contains (filter test xs) x → Kept test xs x) → Kept test (y ∷ xs) x
+    by_place passes (inl first) rest = record { was = subst (Contains (y ∷ xs)) first (Contains-first y xs); passes = ap test (sym first) ∙ passes }
+    by_place passes (inr later) rest = later_one (rest later)
+
+    by_test : (b : Bool) → test y ≡ b → Contains (cond b (y ∷ filter test xs) (filter test xs)) x → (Contains (filter test xs) x → Kept test xs x) → Kept test (y ∷ xs) x
+    by_test true passes kept rest = by_place passes (Contains-cons_cases y x (filter test xs) kept) rest
+    by_test false fails kept rest = later_one (rest kept)
 
 -- where no element passes a test, each fails it
 pub find_none : {X : Type 0} (test : X → Bool) (xs : List X) → find test xs ≡ None → (x : X) → Contains xs x → test x ≡ false
 find_none test [] none x c = absurd (Contains-none x c)
-find_none test (y ∷ xs) none x c =
-    ⊎_elim
-    (λ passes. absurd (none-some y (sym none ∙ ap (λ b. cond b (Some y) (find test xs)) passes)))
-    (λ fails. ⊎_elim
-    (λ first. subst (λ z. test z ≡ false) first fails)
-    (λ later. find_none test xs (sym (ap (λ b. cond b (Some y) (find test xs)) fails) ∙ none) x later)
-    (Contains-cons_cases y x xs c))
-    (cases_Bool (test y))
+find_none test (y ∷ xs) none x c = by_test (cases_Bool (test y)) (Contains-cons_cases y x xs c) (λ rest later. find_none test xs rest x later)
+  where
+    found : (b : Bool) → test y ≡ b → cond b (Some y) (find test xs) ≡ None
+    found b is = ap (λ b. cond b (Some y) (find test xs)) (sym is) ∙ none
+
+    by_test : (test y ≡ true) ⊎ (test y ≡ false) → (y ≡ x) ⊎ Contains xs x → (find test xs ≡ None → Contains xs x → test x ≡ false) → test x ≡ false
+    by_test (inl passes) place rest = absurd (none-some y (sym (found true passes)))
+    by_test (inr fails) (inl first) rest = subst (λ z. test z ≡ false) first fails
+    by_test (inr fails) (inr later) rest = rest (found false fails) later

@@ -110,12 +110,15 @@ Keys_rise-rest entry entries rise = (parts _ _ rise).1
 -- each entry stands at its key
 pub at-Contains : {X : Type 0} (entry : ℕ × X) (entries : List (ℕ × X)) → Keys_rise entries → Contains entries entry → at entry.0 entries ≡ Some entry.1
 at-Contains entry [] rise c = absurd (Contains-none entry c)
-at-Contains entry (first ∷ entries) rise c =
-    ⊎_elim
-    (λ is. subst (λ e. at e.0 (first ∷ entries) ≡ Some e.1) is (at-first first entries))
-    (λ later. let stands = at-Contains entry entries (Keys_rise-rest first entries rise) later in
-    at-rest entry.0 first entries (λ same. none-some entry.1 (sym (at-first_alone first entries rise) ∙ ap (λ k. at k entries) (sym same) ∙ stands)) ∙ stands)
-    (Contains-cons_cases first entry entries c)
+at-Contains entry (first ∷ entries) rise c = by_place (Contains-cons_cases first entry entries c) (λ later. at-Contains entry entries (Keys_rise-rest first entries rise) later)
+  where
+    behind : at entry.0 entries ≡ Some entry.1 → at entry.0 (first ∷ entries) ≡ Some entry.1
+    behind stands =
+        at-rest entry.0 first entries (λ same. none-some entry.1 (sym (at-first_alone first entries rise) ∙ ap (λ k. at k entries) (sym same) ∙ stands)) ∙ stands
+
+    by_place : (first ≡ entry) ⊎ Contains entries entry → (Contains entries entry → at entry.0 entries ≡ Some entry.1) → at entry.0 (first ∷ entries) ≡ Some entry.1
+    by_place (inl same) rest = subst (λ e. at e.0 (first ∷ entries) ≡ Some e.1) same (at-first first entries)
+    by_place (inr later) rest = behind (rest later)
 
 -- a value that passes a test stands at some number
 pub record Passing {X : Type 0} (p : X → Bool) (entries : List (ℕ × X)) : Type 0 where
@@ -143,9 +146,11 @@ Passing-any {X} p (entry ∷ entries) rise any = ⊎_elim first (λ later. with_
 -- where no value passes a test, none that stands at a number does
 pub passes_none : {X : Type 0} (p : X → Bool) (entries : List (ℕ × X)) → list_any (λ entry. p entry.1) entries ≡ false → (n : ℕ) (x : X) → at n entries ≡ Some x → p x ≡ false
 passes_none p [] none n x is = absurd (none-some x is)
-passes_none p (entry ∷ entries) none n x is =
-    let both = or_parts (p entry.1) (list_any (λ e. p e.1) entries) none in
-    ⊎_elim
-    (λ same. subst (λ y. p y ≡ false) (same_Some entry.1 x (sym (at-first entry entries) ∙ ap (λ k. at k (entry ∷ entries)) (sym same) ∙ is)) both.0)
-    (λ other. passes_none p entries both.1 n x (sym (at-rest n entry entries other) ∙ is))
-    (cases_eq n entry.0)
+passes_none p (entry ∷ entries) none n x is = by_key (cases_eq n entry.0) (passes_none p entries fail.1 n x)
+  where
+    fail : (p entry.1 ≡ false) × (list_any (λ e. p e.1) entries ≡ false)
+    fail = or_parts _ _ none
+
+    by_key : (n ≡ entry.0) ⊎ (n ≢ entry.0) → (at n entries ≡ Some x → p x ≡ false) → p x ≡ false
+    by_key (inl same) later = subst (λ y. p y ≡ false) (same_Some entry.1 x (sym (at-first entry entries) ∙ ap (λ k. at k (entry ∷ entries)) (sym same) ∙ is)) fail.0
+    by_key (inr other) later = later (sym (at-rest n entry entries other) ∙ is)

@@ -1,5 +1,5 @@
 -- What the catalog of every script has.
-use Rattle.std.proofs.Common.{◌≡◌, ℕ, suc, ◌+◌, ⊎_elim, List, [], ◌∷◌, ◌++◌, length, Option, Some, None, slice_get, refl, sym, subst}
+use Rattle.std.proofs.Common.{◌≡◌, ℕ, suc, ◌+◌, ◌⊎◌, inl, inr, List, [], ◌∷◌, ◌++◌, length, Option, Some, None, slice_get, refl, sym, subst}
 use Rattle.std.proofs.lemmas.Option.{none-some}
 use Rattle.aq_base.specs.Catalogs.{Catalog}
 use Rattle.aq_base.specs.Names.{Text, foreign_key_name}
@@ -102,15 +102,21 @@ new_enforced triggers decl fk f =
 foreign_key_keeps : (number : ℕ) (table : Text) (col : ℕ) (name : Text) (decl : Decl) (parent : Option (ℕ × List ℕ)) (cat : Catalog) → Foreign_keys_are_enforced cat
     → Foreign_keys_are_enforced (adds_foreign_key number table col name decl parent cat)
 foreign_key_keeps number table col name decl None cat enforced fk f stands = enforced fk f stands
-foreign_key_keeps number table col name decl (Some parent) cat enforced fk f stands =
-    let made : ForeignKey = record { name = foreign_key_name table name; child = number; child_cols = col ∷ []; parent = parent.0; parent_cols = parent.1 } in
-    let more : List Trigger =
-    record { table = parent.0; ops = On_update ∷ On_delete ∷ []; decl = decl; does = Parent (length cat.fks) }
-    ∷ record { table = number; ops = On_insert ∷ On_update ∷ []; decl = decl; does = Check (length cat.fks) } ∷ [] in
-    ⊎_elim
-    (λ old. enforced_more cat.triggers more fk f (enforced fk f old))
-    (λ new. subst (λ n. Is_enforced (cat.triggers ++ more) n f) (sym new.0) (subst (Is_enforced (cat.triggers ++ more) (length cat.fks)) new.1 (new_enforced cat.triggers decl (length cat.fks) made)))
-    (slice_get-push_cases cat.fks made fk f stands)
+foreign_key_keeps number table col name decl (Some parent) cat enforced fk f stands = by_place (slice_get-push_cases cat.fks added fk f stands)
+  where
+    added : ForeignKey
+    added = record { name = foreign_key_name table name; child = number; child_cols = col ∷ []; parent = parent.0; parent_cols = parent.1 }
+
+    more : List Trigger
+    more =
+        record { table = parent.0; ops = On_update ∷ On_delete ∷ []; decl = decl; does = Parent (length cat.fks) }
+        ∷ record { table = number; ops = On_insert ∷ On_update ∷ []; decl = decl; does = Check (length cat.fks) } ∷ []
+
+    by_place : (slice_get cat.fks fk ≡ Some f) ⊎ ((fk ≡ length cat.fks) × (added ≡ f)) → Is_enforced (cat.triggers ++ more) fk f
+    by_place (inl old) = enforced_more cat.triggers more fk f (enforced fk f old)
+    by_place (inr new) =
+        let same_key = subst (Is_enforced (cat.triggers ++ more) (length cat.fks)) new.1 (new_enforced cat.triggers decl (length cat.fks) added) in
+        subst (λ n. Is_enforced (cat.triggers ++ more) n f) (sym new.0) same_key
 
 references_keep : (number : ℕ) (table : Text) (col : ℕ) (items : List ColumnItem) (cat : Catalog) → Foreign_keys_are_enforced cat → Foreign_keys_are_enforced (adds_references number table col items cat)
 references_keep number table col [] cat enforced = enforced

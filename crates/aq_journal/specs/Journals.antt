@@ -1,9 +1,9 @@
 -- A run with its schedule.
-use Rattle.std.specs.Prelude.{◌≡◌, ℕ, true, List, ◌++◌}
+use Rattle.std.specs.Prelude.{◌≡◌, ◌++◌}
 use Rattle.aq_base.specs.Setup.{program_of}
 use Rattle.aq_base.specs.declared.script.Script.{Script}
 use Rattle.aq_run.specs.States.{State}
-use Rattle.aq_run.specs.Runs.{Schedule, run, Is_schedule, have_all_ended, Goes_by_default}
+use Rattle.aq_run.specs.Runs.{Schedule, run, Is_schedule, Is_complete, Goes_by_default}
 
 -- a script, the state of its run, and the sessions that stepped
 pub record Journal : Type 0 where
@@ -26,4 +26,4 @@ pub record GoesOn (before after : Journal) : Type 0 where
 -- and in the end all sessions have ended
 pub record Finishes (before after : Journal) : Type 0 where
   pub goes_on : GoesOn before after
-  pub ended : have_all_ended after.state ≡ true
+  pub complete : Is_complete (program_of after.script) after.schedule

@@ -13,7 +13,7 @@ use Rattle.aq_base.specs.Works.Kind.{Level, Drain}
 use Rattle.aq_base.specs.Setup.{Program, program_of}
 use Rattle.aq_base.specs.declared.script.Bound.{Bound}
 use Rattle.aq_base.specs.declared.script.Bound.TheVariants.{InsertRows, DeleteRows, BeginBlock, CommitBlock, RollbackBlock}
-use Rattle.aq_base.proofs.Lists.{Contains-none, Contains-first, Contains-later, Contains-cons_cases, Contains-map_from, Contains-filter_from, filter_passes}
+use Rattle.aq_base.proofs.Lists.{Contains-none, Contains-first, Contains-later, Contains-cons_cases, Contains-map_from, Kept-filter}
 use Rattle.aq_base.proofs.Maps.{Keys_rise, at-Contains, Removes, Removes-left}
 use Rattle.aq_base.proofs.Databases.{Removes-overlay, Keys_rise-overlay}
 use Rattle.aq_base.proofs.Setup.{Foreign_keys_are_enforced, Foreign_keys_are_enforced-catalog_of}
@@ -53,8 +53,9 @@ old_rows_fit : (view : Database) (table : ℕ) → Keys_rise view → Targets_fi
 old_rows_fit view table rise target c =
     let from = Contains-map_from (λ (entry : ℕ × Stored). Old_row entry.0) (rows_of table view) target c in
     let entry = from.0 in
-    let stands = at-Contains entry view rise (Contains-filter_from (λ (one : ℕ × Stored). one.1.table == table) view entry from.1) in
-    let in_table = eqb-true entry.1.table table (filter_passes (λ (one : ℕ × Stored). one.1.table == table) view entry from.1) in
+    let kept = Kept-filter (λ (one : ℕ × Stored). one.1.table == table) view entry from.1 in
+    let stands = at-Contains entry view rise kept.was in
+    let in_table = eqb-true entry.1.table table kept.passes in
     subst (Target_fits view (Deleting table)) from.2 (λ stored is. ap (λ r. r.table) (same_Some stored entry.1 (sym is ∙ stands)) ∙ in_table)
 
 -- the targets of an INSERT fit whatever is seen

@@ -1,5 +1,5 @@
 -- Every run is finite.
-use Rattle.std.proofs.Common.{◌≡◌, ℕ, zero, suc, ◌+◌, ◌*◌, ◌<◌, ◌≤◌, true, false, cond, ◌==◌, List, [], ◌∷◌, ◌++◌, length, map, drop, filter, Option, Some, None, option_and_then, slice_get, slice_set, sum_by, refl, sym, subst, ap, arith, length-append}
+use Rattle.std.proofs.Common.{◌≡◌, ℕ, zero, suc, ◌+◌, ◌*◌, ◌<◌, ◌≤◌, Bool, true, false, cond, ◌==◌, List, [], ◌∷◌, ◌++◌, length, map, drop, filter, Option, Some, None, option_and_then, slice_get, slice_set, sum_by, refl, sym, subst, ap, arith, length-append}
 use Rattle.std.proofs.lemmas.List.{length-map}
 use Rattle.std.proofs.lemmas.List.Sums.{sum_by-cons, sum_by-le-sum_by}
 use Rattle.std.proofs.lemmas.List.Filters.{length-filter_both}
@@ -339,11 +339,20 @@ module _ (cat : Catalog) (world : World) (s : ℕ) (statements : List Bound) (at
   task_falls next block None (Committing answer ∷ below) few = dropped_falls next block None (Committing answer) below
   task_falls next block (Some t) (Committing answer ∷ below) few = commit_step_falls next block t.work.writes t.work.deferred t.work.opened answer below
 
-  session_falls : (me : Session) → me.ended ≡ false → length (view_of world me.transaction) ≤ at_most → Falls me (task_plan cat world me (slice_get statements me.next) me.tasks)
-  session_falls me goes_on few =
-      subst (λ b. Falls (record { next = me.next; block = me.block; transaction = me.transaction; tasks = me.tasks; ended = b })
-      (task_plan cat world (record { next = me.next; block = me.block; transaction = me.transaction; tasks = me.tasks; ended = b }) (slice_get statements me.next) me.tasks))
-      (sym goes_on) (task_falls me.next me.block me.transaction me.tasks few)
+-- what the step that goes on with a next statement leaves
+abbrev after_step : Catalog → World → ℕ → Session → Option Bound → Scene
+after_step cat world s me statement = effects cat s (effects_of_plan cat me.block (task_plan cat world me statement me.tasks)) (record { world = world; me = me })
+
+-- what is to be shown of a session that has ended or not
+abbrev Falls_at : Catalog → World → ℕ → List Bound → ℕ → Session → Bool → Type 0
+Falls_at cat world s statements at_most me ended =
+    let told : Session = record { next = me.next; block = me.block; transaction = me.transaction; tasks = me.tasks; ended = ended } in
+    Falls_to cat world s statements at_most told (after_step cat world s told (slice_get statements me.next))
+
+session_falls : (cat : Catalog) (world : World) (s : ℕ) (statements : List Bound) (at_most : ℕ) (me : Session) → me.ended ≡ false → length (view_of world me.transaction) ≤ at_most
+    → Falls_to cat world s statements at_most me (after_step cat world s me (slice_get statements me.next))
+session_falls cat world s statements at_most me goes_on few =
+    subst (Falls_at cat world s statements at_most me) (sym goes_on) (task_falls cat world s statements at_most me.next me.block me.transaction me.tasks few)
 
 -- ---- all sessions
 
@@ -385,13 +394,10 @@ unfolding step effects_of plan_of
 steps_left-step program st s enabled =
     let can = Can_step-enabled st s enabled in
     let me = session_at st s in
-    let after = λ (statement : Option Bound).
-    effects program.catalog s (effects_of_plan program.catalog me.block (task_plan program.catalog st.world me statement me.tasks)) (record { world = st.world; me = me }) in
     let few : length (view_of st.world me.transaction) ≤ rows_at_most program st = omega (arith, length-view_of st.world me.transaction, over_sessions-one session_rows program.sessions st.sessions s can.within) in
     let falls = session_falls program.catalog st.world s (script_of program.sessions s) (rows_at_most program st) me can.goes_on few in
-    state_falls program st s (after (statement_at program s me.next)) can.within
-    (subst (λ statement. Falls_to program.catalog st.world s (script_of program.sessions s) (rows_at_most program st) me (after statement))
-    (sym (statement_at_own program.sessions s me.next)) falls)
+    let own = statement_at_own program.sessions s me.next in
+    state_falls program st s (after_step program.catalog st.world s me (statement_at program s me.next)) can.within (rw own falls)
 
 fits_within : (program : Program) (st : State) (schedule : Schedule) → Can_run_from program st schedule → length schedule ≤ steps_left program st
 unfolding Can_run_from

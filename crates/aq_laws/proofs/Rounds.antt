@@ -1,51 +1,53 @@
 -- Events that are taken as a round, and those that wait for the commit.
-use Rattle.std.proofs.Common.{◌≡◌, not, ◌⊎◌, inl, inr, ⊎_elim, List, [], ◌++◌, filter, Contains, ap, subst, append-nil}
+use Rattle.std.proofs.Common.{◌≡◌, true, false, not, ◌⊎◌, inl, inr, List, [], ◌++◌, filter, Contains, ap, subst, append-nil}
 use Rattle.std.proofs.lemmas.Bool.{cases_Bool}
 use Rattle.std.proofs.lemmas.List.Elements.{Contains-append_left, Contains-append_right, Contains-append_cases}
 use Rattle.aq_base.specs.Catalogs.{Catalog}
 use Rattle.aq_base.specs.Works.{Event}
-use Rattle.aq_base.proofs.Lists.{Contains-filter, Contains-filter_from}
+use Rattle.aq_base.proofs.Lists.{Contains-filter, Kept-filter}
 use Rattle.aq_outcomes.specs.Rows.{is_deferred, is_immediate}
 use Rattle.aq_laws.proofs.Works.{Same_events}
 
 -- each event is immediate or deferred
 parted : (cat : Catalog) (queued : List Event) (event : Event) → Contains queued event → Contains (filter (is_immediate cat) queued) event ⊎ Contains (filter (is_deferred cat) queued) event
-parted cat queued event c =
-    ⊎_elim
-    (λ waits. inr (Contains-filter (is_deferred cat) queued event c waits))
-    (λ now. inl (Contains-filter (is_immediate cat) queued event c (ap not now)))
-    (cases_Bool (is_deferred cat event))
+parted cat queued event c = by_test (cases_Bool (is_deferred cat event))
+  where
+    by_test : (is_deferred cat event ≡ true) ⊎ (is_deferred cat event ≡ false) → Contains (filter (is_immediate cat) queued) event ⊎ Contains (filter (is_deferred cat) queued) event
+    by_test (inl waits) = inr (Contains-filter (is_deferred cat) queued event c waits)
+    by_test (inr fires) = inl (Contains-filter (is_immediate cat) queued event c (ap not fires))
 
 -- a round is taken from the level, and the others join those that wait for the commit
 pub Same_events-round : (cat : Catalog) (deferred queued : List Event)
     → Same_events (deferred ++ queued) (filter (is_immediate cat) queued ++ ((deferred ++ filter (is_deferred cat) queued) ++ []))
 Same_events-round cat deferred queued = rw append-nil (record { here = here; there = there })
   where
-    now : List Event
-    now = filter (is_immediate cat) queued
+    round : List Event
+    round = filter (is_immediate cat) queued
 
-    later : List Event
-    later = filter (is_deferred cat) queued
+    others : List Event
+    others = filter (is_deferred cat) queued
 
-    here : (event : Event) → Contains (deferred ++ queued) event → Contains (now ++ (deferred ++ later)) event
-    here event c =
-        ⊎_elim
-        (λ old. Contains-append_right now (deferred ++ later) event (Contains-append_left deferred later event old))
-        (λ new. ⊎_elim
-        (λ fires. Contains-append_left now (deferred ++ later) event fires)
-        (λ waits. Contains-append_right now (deferred ++ later) event (Contains-append_right deferred later event waits))
-        (parted cat queued event new))
-        (Contains-append_cases deferred queued event c)
+    queued_here : (event : Event) → Contains round event ⊎ Contains others event → Contains (round ++ (deferred ++ others)) event
+    queued_here event (inl fires) = Contains-append_left round (deferred ++ others) event fires
+    queued_here event (inr waits) = Contains-append_right round (deferred ++ others) event (Contains-append_right deferred others event waits)
 
-    there : (event : Event) → Contains (now ++ (deferred ++ later)) event → Contains (deferred ++ queued) event
-    there event c =
-        ⊎_elim
-        (λ fires. Contains-append_right deferred queued event (Contains-filter_from (is_immediate cat) queued event fires))
-        (λ others. ⊎_elim
-        (λ old. Contains-append_left deferred queued event old)
-        (λ waits. Contains-append_right deferred queued event (Contains-filter_from (is_deferred cat) queued event waits))
-        (Contains-append_cases deferred later event others))
-        (Contains-append_cases now (deferred ++ later) event c)
+    by_place : (event : Event) → Contains deferred event ⊎ Contains queued event → Contains (round ++ (deferred ++ others)) event
+    by_place event (inl old) = Contains-append_right round (deferred ++ others) event (Contains-append_left deferred others event old)
+    by_place event (inr new) = queued_here event (parted cat queued event new)
+
+    here : (event : Event) → Contains (deferred ++ queued) event → Contains (round ++ (deferred ++ others)) event
+    here event c = by_place event (Contains-append_cases deferred queued event c)
+
+    deferred_there : (event : Event) → Contains deferred event ⊎ Contains others event → Contains (deferred ++ queued) event
+    deferred_there event (inl old) = Contains-append_left deferred queued event old
+    deferred_there event (inr waits) = Contains-append_right deferred queued event (Kept-filter (is_deferred cat) queued event waits).was
+
+    back : (event : Event) → Contains round event ⊎ Contains (deferred ++ others) event → Contains (deferred ++ queued) event
+    back event (inl fires) = Contains-append_right deferred queued event (Kept-filter (is_immediate cat) queued event fires).was
+    back event (inr rest) = deferred_there event (Contains-append_cases deferred others event rest)
+
+    there : (event : Event) → Contains (round ++ (deferred ++ others)) event → Contains (deferred ++ queued) event
+    there event c = back event (Contains-append_cases round (deferred ++ others) event c)
 
 -- where no event is immediate, all join those that wait for the commit
 pub Same_events-close : (cat : Catalog) (deferred queued : List Event) → filter (is_immediate cat) queued ≡ [] → Same_events (deferred ++ queued) (deferred ++ filter (is_deferred cat) queued)

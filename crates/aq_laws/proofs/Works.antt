@@ -1,5 +1,5 @@
 -- What each kind of step does to a transaction's work.
-use Rattle.std.proofs.Common.{◌≡◌, ◌≢◌, ℕ, ◌+◌, ◌≤◌, true, false, ⊎_elim, List, [], ◌∷◌, ◌++◌, length, Option, Some, None, slice_get, Contains, refl, sym, ◌∙◌, ap, subst, arith, le_of_eq, eqb-true}
+use Rattle.std.proofs.Common.{◌≡◌, ◌≢◌, ℕ, ◌+◌, ◌≤◌, true, false, ◌⊎◌, inl, inr, ⊎_elim, List, [], ◌∷◌, ◌++◌, length, Option, Some, None, slice_get, Contains, refl, sym, ◌∙◌, ap, subst, arith, le_of_eq, eqb-true}
 use Rattle.std.specs.List.{list_any}
 use Rattle.std.proofs.lemmas.Option.{none-some, same_Some}
 use Rattle.std.proofs.lemmas.Bool.{false≢true, and_parts, and_from, eq-eqb, cases_eq}
@@ -21,10 +21,12 @@ use Rattle.aq_base.proofs.Values.{keys_match-sym, keys_match-same, keys_match-se
 use Rattle.aq_base.proofs.Databases.{stored_by, stored_by-image, newest, Keys_rise-overlay, at-overlay, Adds-overlay, Removes-overlay}
 use Rattle.aq_base.proofs.Setup.{Foreign_keys_are_enforced}
 use Rattle.aq_outcomes.specs.Faults.Fault.{Missing, Referenced}
-use Rattle.aq_outcomes.specs.References.{key_in}
+use Rattle.aq_outcomes.specs.References.{key_in, child_check, parent_check}
+use Rattle.aq_outcomes.specs.References.Checked.{Violated}
 use Rattle.aq_outcomes.specs.Rows.{same_op, fires_on, holds_null, insert_fault, insert_events, delete_events}
 use Rattle.aq_outcomes.proofs.Rows.{insert_fault-none, insert_fault-no_null, Contains-insert_events, Contains-delete_events, Is_of_change, insert_events-of_change, delete_events-of_change}
-use Rattle.aq_outcomes.proofs.References.{child_check-cases, Has_no_child, parent_check-cases}
+use Rattle.aq_outcomes.proofs.References.{child_check-cases, Has_no_child, Parent_cases, parent_check-cases}
+use Rattle.aq_outcomes.proofs.References.Parent_cases.{Other_parent, No_child, Left_child}
 use Rattle.aq_run.specs.States.{World, last_of}
 use Rattle.aq_run.specs.Effects.Effect.{Finishes}
 use Rattle.aq_run.specs.Steps.{event_plan, check_plan}
@@ -91,33 +93,34 @@ none_from (Some x) never = absurd (never x refl)
 -- the numbers that are drawn
 drawn_with : (rows rows_after numbers n : ℕ) (write : Write) (writes : Writes) → write.number ≡ numbers + 1 → n ≤ rows_after → rows ≤ rows_after
     → ((r : ℕ) (w : Write) → at r writes ≡ Some w → Drawn rows numbers r w) → (r : ℕ) (w : Write) → at r (with_at n write writes) ≡ Some w → Drawn rows_after (numbers + 1) r w
-drawn_with rows rows_after numbers n write writes number row_drawn more drawn r w is =
-    ⊎_elim
-    (λ same. let now : write ≡ w = same_Some write w (sym (at-with_at_same n write writes) ∙ ap (λ k. at k (with_at n write writes)) (sym same) ∙ is) in
-    record { row_drawn = omega arith; number_drawn = le_of_eq (ap (λ x. x.number) (sym now) ∙ number) })
-    (λ other. let before = drawn r w (sym (at-with_at_other r n write writes other) ∙ is) in record { row_drawn = omega arith; number_drawn = omega arith })
-    (cases_eq r n)
+drawn_with rows rows_after numbers n write writes number row_drawn more drawn r w is = by_row (cases_eq r n)
+  where
+    by_row : (r ≡ n) ⊎ (r ≢ n) → Drawn rows_after (numbers + 1) r w
+    by_row (inl same) =
+        let now : write ≡ w = same_Some write w (sym (at-with_at_same n write writes) ∙ ap (λ k. at k (with_at n write writes)) (sym same) ∙ is) in
+        record { row_drawn = omega arith; number_drawn = le_of_eq (ap (λ x. x.number) (sym now) ∙ number) }
+    by_row (inr other) =
+        let before = drawn r w (sym (at-with_at_other r n write writes other) ∙ is) in
+        record { row_drawn = omega arith; number_drawn = omega arith }
 
 -- the events of the change have its image, and those of the row's earlier changes are older
 events_fit : (numbers n : ℕ) (write : Write) (writes : Writes) (events more : List Event) → write.number ≡ numbers + 1
     → ((r : ℕ) (w : Write) → at r writes ≡ Some w → w.number ≤ numbers) → ((event : Event) → Contains events event → Event_fits writes event)
     → ((event : Event) → Contains more event → Is_of_change n write.number write.image event)
     → (event : Event) → Contains (events ++ more) event → Event_fits (with_at n write writes) event
-events_fit numbers n write writes events more number drawn fit of_change event c = ⊎_elim (λ old. kept (fit event old)) (λ new. changed (of_change event new)) (Contains-append_cases events more event c)
+events_fit numbers n write writes events more number drawn fit of_change event c = by_place (Contains-append_cases events more event c)
   where
-    kept : Event_fits writes event → Event_fits (with_at n write writes) event
-    kept is =
-        ⊎_elim
-        (λ same. let before = drawn event.row is.write is.written in
+    by_row : Event_fits writes event → (event.row ≡ n) ⊎ (event.row ≢ n) → Event_fits (with_at n write writes) event
+    by_row is (inl same) =
+        let before = drawn event.row is.write is.written in
         let older = is.not_older in
         record {
           write = write;
           written = ap (λ k. at k (with_at n write writes)) same ∙ at-with_at_same n write writes;
           not_older = omega arith;
           image = λ newest. absurd (omega arith);
-        })
-        (λ other. record { write = is.write; written = at-with_at_other event.row n write writes other ∙ is.written; not_older = is.not_older; image = is.image })
-        (cases_eq event.row n)
+        }
+    by_row is (inr other) = record { write = is.write; written = at-with_at_other event.row n write writes other ∙ is.written; not_older = is.not_older; image = is.image }
 
     changed : Is_of_change n write.number write.image event → Event_fits (with_at n write writes) event
     changed is =
@@ -128,6 +131,10 @@ events_fit numbers n write writes events more number drawn fit of_change event c
           image = λ newest. sym is.has_image;
         }
 
+    by_place : Contains events event ⊎ Contains more event → Event_fits (with_at n write writes) event
+    by_place (inl old) = by_row (fit event old) (cases_eq event.row n)
+    by_place (inr new) = changed (of_change event new)
+
 -- ---- a new row
 
 -- a new row whose keys no row has
@@ -135,31 +142,30 @@ keys_with : (keys : List UniqueKey) (n : ℕ) (new : Stored) (before after : Dat
     → ((k : UniqueKey) → Contains keys k → k.table ≡ new.table → (q : ℕ) (stored : Stored) → at q before ≡ Some stored → has_key k.table k.cols (values_at k.cols new.values) stored ≡ false)
     → Keys_are_unique keys after
 keys_with keys n new before after adds unique free k c m q one other m_stands q_stands one_in other_in same =
-    ⊎_elim
-    (λ m_new. ⊎_elim
-    (λ q_new. m_new.0 ∙ sym q_new.0)
-    (λ q_old. absurd (clash other (sym one_in ∙ ap (λ r. r.table) m_new.1) q q_old other_in
-    (keys_match-sym (values_at k.cols new.values) (values_at k.cols other.values) (subst (λ r. keys_match (values_at k.cols r.values) (values_at k.cols other.values) ≡ true) m_new.1 same))))
-    (Adds-cases n new before after adds q other q_stands))
-    (λ m_old. ⊎_elim
-    (λ q_new. absurd (clash one (sym other_in ∙ ap (λ r. r.table) q_new.1) m m_old one_in
-    (subst (λ r. keys_match (values_at k.cols one.values) (values_at k.cols r.values) ≡ true) q_new.1 same)))
-    (λ q_old. unique k c m q one other m_old q_old one_in other_in same)
-    (Adds-cases n new before after adds q other q_stands))
-    (Adds-cases n new before after adds m one m_stands)
+    by_cases (Adds-cases n new before after adds m one m_stands) (Adds-cases n new before after adds q other q_stands)
   where
     clash : (old : Stored) → k.table ≡ new.table → (p : ℕ) → at p before ≡ Some old → old.table ≡ k.table → keys_match (values_at k.cols old.values) (values_at k.cols new.values) ≡ true → ⊥
     clash old of_table p stands in_table matches = false≢true (sym (free k c of_table p old stands) ∙ and_from _ _ (eq-eqb old.table k.table in_table) matches)
+
+    by_cases : ((m ≡ n) × (one ≡ new)) ⊎ (at m before ≡ Some one) → ((q ≡ n) × (other ≡ new)) ⊎ (at q before ≡ Some other) → m ≡ q
+    by_cases (inl m_new) (inl q_new) = m_new.0 ∙ sym q_new.0
+    by_cases (inl m_new) (inr q_old) =
+        let matches = subst (λ r. keys_match (values_at k.cols r.values) (values_at k.cols other.values) ≡ true) m_new.1 same in
+        absurd (clash other (sym one_in ∙ ap (λ r. r.table) m_new.1) q q_old other_in (keys_match-sym (values_at k.cols new.values) (values_at k.cols other.values) matches))
+    by_cases (inr m_old) (inl q_new) =
+        let matches = subst (λ r. keys_match (values_at k.cols one.values) (values_at k.cols r.values) ≡ true) q_new.1 same in
+        absurd (clash one (sym other_in ∙ ap (λ r. r.table) q_new.1) m m_old one_in matches)
+    by_cases (inr m_old) (inr q_old) = unique k c m q one other m_old q_old one_in other_in same
 
 -- a new row with no null where none may be
 not_null_with : (tables : List Table) (n : ℕ) (new : Stored) (before after : Database) → Adds n new before after → Not_null_holds tables before
     → ((t : Table) → slice_get tables new.table ≡ Some t → (col : ℕ) → Contains t.not_null col → holds_null new.values col ≡ false)
     → Not_null_holds tables after
-not_null_with tables n new before after adds holds free number row stands t of_table col c =
-    ⊎_elim
-    (λ new_one. subst (λ r. holds_null r.values col ≡ false) (sym new_one.1) (free t (ap (λ r. slice_get tables r.table) (sym new_one.1) ∙ of_table) col c))
-    (λ old. holds number row old t of_table col c)
-    (Adds-cases n new before after adds number row stands)
+not_null_with tables n new before after adds holds free number row stands t of_table col c = by_row (Adds-cases n new before after adds number row stands)
+  where
+    by_row : ((number ≡ n) × (row ≡ new)) ⊎ (at number before ≡ Some row) → holds_null row.values col ≡ false
+    by_row (inl is_new) = subst (λ r. holds_null r.values col ≡ false) (sym is_new.1) (free t (ap (λ r. slice_get tables r.table) (sym is_new.1) ∙ of_table) col c)
+    by_row (inr old) = holds number row old t of_table col c
 
 -- a new row whose checks are queued
 references_with : (cat : Catalog) (n : ℕ) (write : Write) (new : Stored) (writes writes_after : Writes) (view view_after : Database) (events more : List Event)
@@ -167,22 +173,14 @@ references_with : (cat : Catalog) (n : ℕ) (write : Write) (new : Stored) (writ
     → ((fk : ℕ) (f : ForeignKey) → Refers cat view_after fk f n new → Check_waits cat fk n writes_after (events ++ more))
     → References_stand cat view_after writes_after (events ++ more)
 references_with cat n write new writes writes_after view view_after events more adds_write adds_row stand queued fk f row child refers =
-    ⊎_elim
-    (λ is_new. Check_to_come (subst (λ r. Check_waits cat fk r writes_after (events ++ more)) (sym is_new.0)
-    (queued fk f (record {
-      key = refers.key;
-      stands = adds_row.here;
-      in_child = ap (λ r. r.table) (sym is_new.1) ∙ refers.in_child;
-      no_null = ap (λ r. has_no_null (values_at f.child_cols r.values)) (sym is_new.1) ∙ refers.no_null;
-    }))))
-    (λ old. kept (stand fk f row child (record { key = refers.key; stands = old; in_child = refers.in_child; no_null = refers.no_null })))
-    (Adds-cases n new view view_after adds_row row child refers.stands)
+    by_row (Adds-cases n new view view_after adds_row row child refers.stands)
   where
-    kept : Reference_stands cat view writes events fk f row (values_at f.child_cols child.values) → Reference_stands cat view_after writes_after (events ++ more) fk f row (values_at f.child_cols child.values)
-    kept (Covered parent) =
-        Covered (record { number = parent.number; row = parent.row; stands = Adds-kept n new view view_after adds_row parent.number parent.row parent.stands; has = parent.has })
-    kept (Check_to_come waits) =
-        Check_to_come (record {
+    key : Row
+    key = values_at f.child_cols child.values
+
+    check_stays : Check_waits cat fk row writes events → Check_waits cat fk row writes_after (events ++ more)
+    check_stays waits =
+        record {
           event = waits.event;
           waits = Contains-append_left events more waits.event waits.waits;
           trigger = waits.trigger;
@@ -192,8 +190,26 @@ references_with cat n write new writes writes_after view view_after events more 
           write = waits.write;
           written = Adds-kept n write writes writes_after adds_write row waits.write waits.written;
           live = waits.live;
-        })
-    kept (Parent_to_come waits) = Parent_to_come (parent_among cat fk f (values_at f.child_cols child.values) events (events ++ more) waits (Contains-append_left events more waits.event waits.waits))
+        }
+
+    stays : Reference_stands cat view writes events fk f row key → Reference_stands cat view_after writes_after (events ++ more) fk f row key
+    stays (Covered parent) =
+        Covered (record { number = parent.number; row = parent.row; stands = Adds-kept n new view view_after adds_row parent.number parent.row parent.stands; has = parent.has })
+    stays (Check_to_come waits) = Check_to_come (check_stays waits)
+    stays (Parent_to_come waits) = Parent_to_come (parent_among cat fk f key events (events ++ more) waits (Contains-append_left events more waits.event waits.waits))
+
+    new_refers : child ≡ new → Refers cat view_after fk f n new
+    new_refers same =
+        record {
+          key = refers.key;
+          stands = adds_row.here;
+          in_child = ap (λ r. r.table) (sym same) ∙ refers.in_child;
+          no_null = ap (λ r. has_no_null (values_at f.child_cols r.values)) (sym same) ∙ refers.no_null;
+        }
+
+    by_row : ((row ≡ n) × (child ≡ new)) ⊎ (at row view ≡ Some child) → Reference_stands cat view_after writes_after (events ++ more) fk f row key
+    by_row (inl is_new) = Check_to_come (subst (λ r. Check_waits cat fk r writes_after (events ++ more)) (sym is_new.0) (queued fk f (new_refers is_new.1)))
+    by_row (inr old) = stays (stand fk f row child (record { key = refers.key; stands = old; in_child = refers.in_child; no_null = refers.no_null }))
 
 -- the new row's check among the events that wait
 check_is_queued : (cat : Catalog) (table row number : ℕ) (values : Row) (commit : ℕ) (writes_after : Writes) (view_after : Database) (events : List Event)
@@ -203,8 +219,8 @@ check_is_queued : (cat : Catalog) (table row number : ℕ) (values : Row) (commi
 check_is_queued cat table row number values commit writes_after view_after events enforced written fk f refers =
     let check = (enforced fk f refers.key).of_child in
     let event : Event = record { trigger = check.number; row = row; write = number; old = None; new = Some values } in
-    let fires : fires_on table Insert check.trigger ≡ true =
-    and_from _ _ (eq-eqb check.trigger.table table (check.of_table ∙ sym refers.in_child)) (ap (list_any (same_op Insert)) check.with_ops) in
+    let of_table = check.of_table ∙ sym refers.in_child in
+    let fires : fires_on table Insert check.trigger ≡ true = and_from _ _ (eq-eqb check.trigger.table table of_table) (ap (list_any (same_op Insert)) check.with_ops) in
     record {
       event = event;
       waits = Contains-append_right events (insert_events cat table row number values) event (Contains-insert_events cat table row number values check.number check.trigger check.stands fires);
@@ -257,8 +273,8 @@ parent_is_queued cat table row number stored events enforced in_table fk f key i
     let look = (enforced fk f is_fk).of_parent in
     let parts = and_parts _ _ has in
     let event : Event = record { trigger = look.number; row = row; write = number; old = Some stored.values; new = None } in
-    let fires : fires_on table Delete look.trigger ≡ true =
-    and_from _ _ (eq-eqb look.trigger.table table (look.of_table ∙ sym (eqb-true stored.table f.parent parts.0) ∙ in_table)) (ap (list_any (same_op Delete)) look.with_ops) in
+    let of_table = look.of_table ∙ sym (eqb-true stored.table f.parent parts.0) ∙ in_table in
+    let fires : fires_on table Delete look.trigger ≡ true = and_from _ _ (eq-eqb look.trigger.table table of_table) (ap (list_any (same_op Delete)) look.with_ops) in
     record {
       event = event;
       waits = Contains-append_right events (delete_events cat table row number stored.values) event (Contains-delete_events cat table row number stored.values look.number look.trigger look.stands fires);
@@ -275,23 +291,23 @@ references_without : (cat : Catalog) (n : ℕ) (write : Write) (stored : Stored)
     → References_stand cat view_after (with_at n write writes) (events ++ more)
 references_without cat n write stored writes view view_after events more stood removes stand queued fk f row child refers =
     let left = Removes-left n view view_after removes row child refers.stands in
-    kept left.0 (stand fk f row child (record { key = refers.key; stands = left.1; in_child = refers.in_child; no_null = refers.no_null }))
+    stays left.0 (stand fk f row child (record { key = refers.key; stands = left.1; in_child = refers.in_child; no_null = refers.no_null }))
   where
     key : Row
     key = values_at f.child_cols child.values
 
     goes : (parent : Has_parent f key view) → parent.number ≡ n → Parent_waits cat fk f key (events ++ more)
     goes parent same =
-        queued fk f key refers.key (subst (λ r. has_key f.parent f.parent_cols key r ≡ true) (same_Some parent.row stored (sym parent.stands ∙ ap (λ k. at k view) same ∙ stood)) parent.has)
+        let is_stored = same_Some parent.row stored (sym parent.stands ∙ ap (λ k. at k view) same ∙ stood) in
+        queued fk f key refers.key (subst (λ r. has_key f.parent f.parent_cols key r ≡ true) is_stored parent.has)
 
-    kept : row ≢ n → Reference_stands cat view writes events fk f row key → Reference_stands cat view_after (with_at n write writes) (events ++ more) fk f row key
-    kept other (Covered parent) =
-        ⊎_elim
-        (λ same. Parent_to_come (goes parent same))
-        (λ stays. Covered (record { number = parent.number; row = parent.row; stands = removes.elsewhere parent.number stays ∙ parent.stands; has = parent.has }))
-        (cases_eq parent.number n)
-    kept other (Check_to_come waits) =
-        Check_to_come (record {
+    by_parent : (parent : Has_parent f key view) → (parent.number ≡ n) ⊎ (parent.number ≢ n) → Reference_stands cat view_after (with_at n write writes) (events ++ more) fk f row key
+    by_parent parent (inl same) = Parent_to_come (goes parent same)
+    by_parent parent (inr other) = Covered (record { number = parent.number; row = parent.row; stands = removes.elsewhere parent.number other ∙ parent.stands; has = parent.has })
+
+    check_stays : row ≢ n → Check_waits cat fk row writes events → Check_waits cat fk row (with_at n write writes) (events ++ more)
+    check_stays other waits =
+        record {
           event = waits.event;
           waits = Contains-append_left events more waits.event waits.waits;
           trigger = waits.trigger;
@@ -301,8 +317,12 @@ references_without cat n write stored writes view view_after events more stood r
           write = waits.write;
           written = at-with_at_other row n write writes other ∙ waits.written;
           live = waits.live;
-        })
-    kept other (Parent_to_come waits) = Parent_to_come (parent_among cat fk f key events (events ++ more) waits (Contains-append_left events more waits.event waits.waits))
+        }
+
+    stays : row ≢ n → Reference_stands cat view writes events fk f row key → Reference_stands cat view_after (with_at n write writes) (events ++ more) fk f row key
+    stays other (Covered parent) = by_parent parent (cases_eq parent.number n)
+    stays other (Check_to_come waits) = Check_to_come (check_stays other waits)
+    stays other (Parent_to_come waits) = Parent_to_come (parent_among cat fk f key events (events ++ more) waits (Contains-append_left events more waits.event waits.waits))
 
 view_drawn : (commit rows : ℕ) (row : ℕ) (stored : Stored) (write : Option Write) (had : Option Stored) → newest commit write had ≡ Some stored
     → ((w : Write) → write ≡ Some w → row ≤ rows) → ((r : Stored) → had ≡ Some r → row ≤ rows) → row ≤ rows
@@ -350,21 +370,41 @@ check_done : (cat : Catalog) (world : World) (work : Work) (event : Event) (even
     → (waits : Check_waits cat fk row work.writes events) → event ≡ waits.event
     → Has_parent f (values_at f.child_cols child.values) (view_of world.history work.writes)
 check_done cat world work event events rise stands c done fk f row child refers waits same =
-    let commit = length world.history in
-    let view = view_of world.history work.writes in
-    let fits = stands.fit event c in
-    let of_row : event.row ≡ row = ap (λ e. e.row) same ∙ waits.of_row in
-    let write_is : fits.write ≡ waits.write = same_Some fits.write waits.write (sym fits.written ∙ ap (λ r. at r work.writes) of_row ∙ waits.written) in
-    let live : fits.write.number ≡ event.write = ap (λ w. w.number) write_is ∙ waits.live ∙ ap (λ e. e.write) (sym same) in
-    let stored : stored_by commit fits.write.table fits.write.image ≡ Some child =
-    sym (ap (λ w. newest commit w (at row (last_of world.history))) (sym (ap (λ r. at r work.writes) of_row) ∙ fits.written)) ∙ sym (at-overlay commit work.writes (last_of world.history) row stands.rise) ∙ refers.stands in
-    let key : key_in f.child_cols event.new ≡ values_at f.child_cols child.values =
-    ap (key_in f.child_cols) (sym (fits.image live) ∙ stored_by-image commit fits.write.table fits.write.image child stored) in
-    let plan = event_plan-check cat world work event waits.trigger fk f (ap (λ e. slice_get cat.triggers e.trigger) same ∙ waits.of_trigger) waits.checks refers.key in
-    ⊎_elim
-    (λ parent. subst (λ k. Has_parent f k view) key parent)
-    (λ violated. let never : Does_all (Finishes ∷ []) ≡ Fails [] (Missing f (key_in f.child_cols event.new)) = sym done ∙ plan ∙ ap check_plan violated in absurd (cc))
-    (child_check-cases f event fits.write work.writes view (Keys_rise-overlay commit work.writes (last_of world.history) rise) fits.written live (ap has_no_null key ∙ refers.no_null))
+    by_check (child_check-cases f event fits.write work.writes view (Keys_rise-overlay commit work.writes (last_of world.history) rise) fits.written live (ap has_no_null key ∙ refers.no_null))
+  where
+    commit : ℕ
+    commit = length world.history
+
+    view : Database
+    view = view_of world.history work.writes
+
+    fits : Event_fits work.writes event
+    fits = stands.fit event c
+
+    of_row : at event.row work.writes ≡ at row work.writes
+    of_row = ap (λ e. at e.row work.writes) same ∙ ap (λ r. at r work.writes) waits.of_row
+
+    live : fits.write.number ≡ event.write
+    live = ap (λ w. w.number) (same_Some fits.write waits.write (sym fits.written ∙ of_row ∙ waits.written)) ∙ waits.live ∙ ap (λ e. e.write) (sym same)
+
+    stored : stored_by commit fits.write.table fits.write.image ≡ Some child
+    stored =
+        let seen = at-overlay commit work.writes (last_of world.history) row stands.rise in
+        let newest_is = ap (λ w. newest commit w (at row (last_of world.history))) (sym of_row ∙ fits.written) in
+        sym newest_is ∙ sym seen ∙ refers.stands
+
+    key : key_in f.child_cols event.new ≡ values_at f.child_cols child.values
+    key = ap (key_in f.child_cols) (sym (fits.image live) ∙ stored_by-image commit fits.write.table fits.write.image child stored)
+
+    plan : event_plan cat world work event ≡ check_plan (child_check f event work.writes view)
+    plan = event_plan-check cat world work event waits.trigger fk f (ap (λ e. slice_get cat.triggers e.trigger) same ∙ waits.of_trigger) waits.checks refers.key
+
+    by_check : Has_parent f (key_in f.child_cols event.new) view ⊎ (child_check f event work.writes view ≡ Violated (Missing f (key_in f.child_cols event.new)))
+        → Has_parent f (values_at f.child_cols child.values) view
+    by_check (inl parent) = subst (λ k. Has_parent f k view) key parent
+    by_check (inr violated) =
+        let refused : Does_all (Finishes ∷ []) ≡ Fails [] (Missing f (key_in f.child_cols event.new)) = sym done ∙ plan ∙ ap check_plan violated in
+        absurd (cc)
 
 -- a row that refers by the key would be found
 not_without_child : (f : ForeignKey) (key : Row) (view : Database) (row : ℕ) (child : Stored) → at row view ≡ Some child → child.table ≡ f.child
@@ -380,16 +420,23 @@ look_done : (cat : Catalog) (world : World) (work : Work) (event : Event) (event
     → (waits : Parent_waits cat fk f (values_at f.child_cols child.values) events) → event ≡ waits.event
     → Has_parent f (values_at f.child_cols child.values) (view_of world.history work.writes)
 look_done cat world work event events rise done fk f row child refers waits same =
-    let view = view_of world.history work.writes in
-    let key : key_in f.parent_cols event.old ≡ values_at f.child_cols child.values = ap (λ e. key_in f.parent_cols e.old) same ∙ waits.old_key in
-    let plan = event_plan-parent cat world work event waits.trigger fk f (ap (λ e. slice_get cat.triggers e.trigger) same ∙ waits.of_trigger) waits.looks refers.key in
-    ⊎_elim
-    (λ parent. subst (λ k. Has_parent f k view) key parent)
-    (λ others. ⊎_elim
-    (λ none. absurd (not_without_child f (key_in f.parent_cols event.old) view row child refers.stands refers.in_child refers.no_null key none))
-    (λ violated. let never : Does_all (Finishes ∷ []) ≡ Fails [] (Referenced f (key_in f.parent_cols event.old)) = sym done ∙ plan ∙ ap check_plan violated in absurd (cc))
-    others)
-    (parent_check-cases f event view (Keys_rise-overlay (length world.history) work.writes (last_of world.history) rise))
+    by_check (parent_check-cases f event view (Keys_rise-overlay (length world.history) work.writes (last_of world.history) rise))
+  where
+    view : Database
+    view = view_of world.history work.writes
+
+    key : key_in f.parent_cols event.old ≡ values_at f.child_cols child.values
+    key = ap (λ e. key_in f.parent_cols e.old) same ∙ waits.old_key
+
+    plan : event_plan cat world work event ≡ check_plan (parent_check f event view)
+    plan = event_plan-parent cat world work event waits.trigger fk f (ap (λ e. slice_get cat.triggers e.trigger) same ∙ waits.of_trigger) waits.looks refers.key
+
+    by_check : Parent_cases f event view → Has_parent f (values_at f.child_cols child.values) view
+    by_check (Other_parent parent) = subst (λ k. Has_parent f k view) key parent
+    by_check (No_child none) = absurd (not_without_child f (key_in f.parent_cols event.old) view row child refers.stands refers.in_child refers.no_null key none)
+    by_check (Left_child violated) =
+        let refused : Does_all (Finishes ∷ []) ≡ Fails [] (Referenced f (key_in f.parent_cols event.old)) = sym done ∙ plan ∙ ap check_plan violated in
+        absurd (cc)
 
 -- an event that is done was not needed, or the row has a parent now
 pub finishes : (cat : Catalog) (world : World) (work : Work) (event : Event) (events : List Event)
@@ -402,27 +449,31 @@ finishes cat world work event events rise stands done =
       drawn = stands.drawn;
       keys = stands.keys;
       not_null = stands.not_null;
-      references = λ fk f row child refers. kept fk f row child refers (stands.references fk f row child refers);
+      references = λ fk f row child refers. still fk f row child refers (stands.references fk f row child refers);
       fit = λ other c. stands.fit other (Contains-later event other events c);
     }
   where
     view : Database
     view = view_of world.history work.writes
 
-    kept : (fk : ℕ) (f : ForeignKey) (row : ℕ) (child : Stored) → Refers cat view fk f row child
+    by_check : (fk : ℕ) (f : ForeignKey) (row : ℕ) (child : Stored) → Refers cat view fk f row child
+        → (waits : Check_waits cat fk row work.writes (event ∷ events)) → (event ≡ waits.event) ⊎ Contains events waits.event
+        → Reference_stands cat view work.writes events fk f row (values_at f.child_cols child.values)
+    by_check fk f row child refers waits (inl first) = Covered (check_done cat world work event (event ∷ events) rise stands (Contains-first event events) done fk f row child refers waits first)
+    by_check fk f row child refers waits (inr later) = Check_to_come (check_among cat fk row work.writes (event ∷ events) events waits later)
+
+    by_look : (fk : ℕ) (f : ForeignKey) (row : ℕ) (child : Stored) → Refers cat view fk f row child
+        → (waits : Parent_waits cat fk f (values_at f.child_cols child.values) (event ∷ events)) → (event ≡ waits.event) ⊎ Contains events waits.event
+        → Reference_stands cat view work.writes events fk f row (values_at f.child_cols child.values)
+    by_look fk f row child refers waits (inl first) = Covered (look_done cat world work event (event ∷ events) rise done fk f row child refers waits first)
+    by_look fk f row child refers waits (inr later) = Parent_to_come (parent_among cat fk f (values_at f.child_cols child.values) (event ∷ events) events waits later)
+
+    still : (fk : ℕ) (f : ForeignKey) (row : ℕ) (child : Stored) → Refers cat view fk f row child
         → Reference_stands cat view work.writes (event ∷ events) fk f row (values_at f.child_cols child.values)
         → Reference_stands cat view work.writes events fk f row (values_at f.child_cols child.values)
-    kept fk f row child refers (Covered parent) = Covered parent
-    kept fk f row child refers (Check_to_come waits) =
-        ⊎_elim
-        (λ first. Covered (check_done cat world work event (event ∷ events) rise stands (Contains-first event events) done fk f row child refers waits first))
-        (λ later. Check_to_come (check_among cat fk row work.writes (event ∷ events) events waits later))
-        (Contains-cons_cases event waits.event events waits.waits)
-    kept fk f row child refers (Parent_to_come waits) =
-        ⊎_elim
-        (λ first. Covered (look_done cat world work event (event ∷ events) rise done fk f row child refers waits first))
-        (λ later. Parent_to_come (parent_among cat fk f (values_at f.child_cols child.values) (event ∷ events) events waits later))
-        (Contains-cons_cases event waits.event events waits.waits)
+    still fk f row child refers (Covered parent) = Covered parent
+    still fk f row child refers (Check_to_come waits) = by_check fk f row child refers waits (Contains-cons_cases event waits.event events waits.waits)
+    still fk f row child refers (Parent_to_come waits) = by_look fk f row child refers waits (Contains-cons_cases event waits.event events waits.waits)
 
 -- ---- commit
 

@@ -1,4 +1,4 @@
--- How many steps a run may still take.
+-- Every run is finite: a number that each step makes smaller.
 use Rattle.std.specs.Prelude.{ℕ, ◌+◌, ◌*◌, ◌≤◌, Bool, true, false, List, [], ◌∷◌, length, drop, Option, Some, None, sum_by}
 use Rattle.aq_base.specs.Values.{Row}
 use Rattle.aq_base.specs.Catalogs.{Catalog}
@@ -58,7 +58,9 @@ session_rows statements me = sum_by statement_rows (drop me.next statements) + s
 abbrev pub rows_at_most : Program → State → ℕ
 rows_at_most program st = length (last_database st.world) + over_sessions session_rows program.sessions st.sessions
 
--- ---- steps: each number is a bound of the steps that are still to come because of the thing
+-- ---- steps
+
+-- Each number bounds the steps that are still to come because of what it is said of.
 
 -- a row to be inserted or deleted: its own step, and three for each trigger whose event it may queue
 abbrev pub row_steps : Catalog → ℕ
@@ -73,7 +75,7 @@ statement_steps cat at_most BeginBlock = 1
 statement_steps cat at_most CommitBlock = 2
 statement_steps cat at_most RollbackBlock = 1
 
--- what is in progress
+-- what is in progress: the rows that are left, and of the end of the rows, the close of the level and the commit those that are to come
 abbrev pub task_steps : Catalog → Task → ℕ
 task_steps cat (Rows operation left done) = 3 + length left * row_steps cat
 task_steps cat (Rounds answer) = 2
@@ -98,9 +100,10 @@ abbrev pub session_steps : Catalog → ℕ → List Bound → Session → ℕ
 session_steps cat at_most statements me =
     end_steps me.ended + sum_by (statement_steps cat at_most) (drop me.next statements) + sum_by (task_steps cat) me.tasks + transaction_steps me.transaction
 
+-- how many steps a state has left at the most
 abbrev pub steps_left : Program → State → ℕ
 steps_left program st = over_sessions (session_steps program.catalog (rows_at_most program st)) program.sessions st.sessions
 
--- a schedule that can be run is no longer than the steps that the first state has left
+-- no schedule that can be run is longer than the number of the first state
 abbrev pub Runs_are_finite : Type 0
 Runs_are_finite = (program : Program) (schedule : Schedule) → Is_schedule program schedule → length schedule ≤ steps_left program (opening program)

@@ -1,5 +1,5 @@
 -- What a check that passes has found.
-use Rattle.std.proofs.Common.{◌≡◌, ℕ, true, false, cond, ◌⊎◌, inl, inr, ⊎_elim, Some, ◌∙◌, ap}
+use Rattle.std.proofs.Common.{◌≡◌, ℕ, true, false, cond, ◌⊎◌, inl, inr, Some, ◌∙◌, ap}
 use Rattle.std.proofs.lemmas.Bool.{eq-eqb, cases_Bool}
 use Rattle.aq_base.specs.Values.{Row, has_no_null}
 use Rattle.aq_base.specs.Maps.{at}
@@ -21,27 +21,41 @@ Has_parent-found f key view rise found =
 -- the check of a live event whose key has no null finds a parent, or is violated
 pub child_check-cases : (f : ForeignKey) (event : Event) (write : Write) (writes : Writes) (view : Database) → Keys_rise view → at event.row writes ≡ Some write → write.number ≡ event.write
     → has_no_null (key_in f.child_cols event.new) ≡ true → Has_parent f (key_in f.child_cols event.new) view ⊎ (child_check f event writes view ≡ Violated (Missing f (key_in f.child_cols event.new)))
-child_check-cases f event write writes view rise written live no_null =
-    let key = key_in f.child_cols event.new in
-    ⊎_elim (λ found. inl (Has_parent-found f key view rise found)) (λ missing. inr (
-    ap (λ o. cond (is_live event o) (look_for_parent f key view) Skipped) written
-    ∙ ap (λ b. cond b (look_for_parent f key view) Skipped) (eq-eqb write.number event.write live)
-    ∙ ap (λ b. cond b (cond (has_parent f key view) Passed (Violated (Missing f key))) Passed) no_null
-    ∙ ap (λ b. cond b Passed (Violated (Missing f key))) missing)) (cases_Bool (has_parent f key view))
+child_check-cases f event write writes view rise written live no_null = by_test (cases_Bool (has_parent f key view))
+  where
+    key : Row
+    key = key_in f.child_cols event.new
+
+    looks : child_check f event writes view ≡ look_for_parent f key view
+    looks = ap (λ o. cond (is_live event o) (look_for_parent f key view) Skipped) written ∙ ap (λ b. cond b (look_for_parent f key view) Skipped) (eq-eqb write.number event.write live)
+
+    finds : look_for_parent f key view ≡ cond (has_parent f key view) Passed (Violated (Missing f key))
+    finds = ap (λ b. cond b (cond (has_parent f key view) Passed (Violated (Missing f key))) Passed) no_null
+
+    by_test : (has_parent f key view ≡ true) ⊎ (has_parent f key view ≡ false) → Has_parent f key view ⊎ (child_check f event writes view ≡ Violated (Missing f key))
+    by_test (inl found) = inl (Has_parent-found f key view rise found)
+    by_test (inr missing) = inr (looks ∙ finds ∙ ap (λ b. cond b Passed (Violated (Missing f key))) missing)
 
 -- no row of the child table has the key
 pub record Has_no_child (f : ForeignKey) (key : Row) (view : Database) : Type 0 where
   pub none : (number : ℕ) (row : Stored) → at number view ≡ Some row → has_key f.child f.child_cols key row ≡ false
 
--- the check of a parent row that went finds another parent or no child, or is violated
-pub parent_check-cases : (f : ForeignKey) (event : Event) (view : Database) → Keys_rise view
-    → Has_parent f (key_in f.parent_cols event.old) view
-    ⊎ (Has_no_child f (key_in f.parent_cols event.old) view ⊎ (parent_check f event view ≡ Violated (Referenced f (key_in f.parent_cols event.old))))
-parent_check-cases f event view rise =
-    let key = key_in f.parent_cols event.old in
-    ⊎_elim (λ found. inl (Has_parent-found f key view rise found)) (λ missing. ⊎_elim
-    (λ child. inr (inr (
-    ap (λ b. cond b Passed (cond (has_child f key view) (Violated (Referenced f key)) Passed)) missing
-    ∙ ap (λ b. cond b (Violated (Referenced f key)) Passed) child)))
-    (λ free. inr (inl (record { none = passes_none (has_key f.child f.child_cols key) view free })))
-    (cases_Bool (has_child f key view))) (cases_Bool (has_parent f key view))
+-- what the look for children of a parent row that went may find
+pub data Parent_cases (f : ForeignKey) (event : Event) (view : Database) : Type 0 where
+  Other_parent : (parent : Has_parent f (key_in f.parent_cols event.old) view) → Parent_cases f event view
+  No_child : (none : Has_no_child f (key_in f.parent_cols event.old) view) → Parent_cases f event view
+  Left_child : (violated : parent_check f event view ≡ Violated (Referenced f (key_in f.parent_cols event.old))) → Parent_cases f event view
+
+pub parent_check-cases : (f : ForeignKey) (event : Event) (view : Database) → Keys_rise view → Parent_cases f event view
+parent_check-cases f event view rise = by_test (cases_Bool (has_parent f key view)) (cases_Bool (has_child f key view))
+  where
+    key : Row
+    key = key_in f.parent_cols event.old
+
+    looks : has_parent f key view ≡ false → parent_check f event view ≡ cond (has_child f key view) (Violated (Referenced f key)) Passed
+    looks missing = ap (λ b. cond b Passed (cond (has_child f key view) (Violated (Referenced f key)) Passed)) missing
+
+    by_test : (has_parent f key view ≡ true) ⊎ (has_parent f key view ≡ false) → (has_child f key view ≡ true) ⊎ (has_child f key view ≡ false) → Parent_cases f event view
+    by_test (inl found) child = Other_parent (Has_parent-found f key view rise found)
+    by_test (inr missing) (inl child) = Left_child (looks missing ∙ ap (λ b. cond b (Violated (Referenced f key)) Passed) child)
+    by_test (inr missing) (inr free) = No_child (record { none = passes_none (has_key f.child f.child_cols key) view free })

@@ -1,5 +1,5 @@
 -- A new row that isn't refused, and the events that a change queues.
-use Rattle.std.proofs.Common.{◌≡◌, ℕ, zero, suc, ◌+◌, true, false, cond, ◌&&◌, ◌==◌, List, [], ◌∷◌, Option, Some, None, slice_get, Contains, find, ⊎_elim, refl, sym, ◌∙◌, ap, subst, arith, add-zero, zero-add}
+use Rattle.std.proofs.Common.{◌≡◌, ℕ, zero, suc, ◌+◌, true, false, cond, ◌&&◌, ◌==◌, List, [], ◌∷◌, Option, Some, None, slice_get, Contains, find, ◌⊎◌, inl, inr, refl, sym, ◌∙◌, ap, subst, arith, add-zero, zero-add}
 use Rattle.std.proofs.lemmas.Bool.{true≢false, and_cases, eq-eqb}
 use Rattle.std.proofs.lemmas.Option.{none-some, same_Some}
 use Rattle.aq_base.specs.Values.{Row, values_at}
@@ -37,11 +37,17 @@ insert_fault-no_null cat view table row none t of_table col c =
 pub insert_fault-none : (cat : Catalog) (view : Database) (table : ℕ) (row : Row) → insert_fault cat view table row ≡ None
     → (k : UniqueKey) → Contains cat.keys k → k.table ≡ table → (n : ℕ) (stored : Stored) → at n view ≡ Some stored → has_key k.table k.cols (values_at k.cols row) stored ≡ false
 insert_fault-none cat view table row none k c of_table n stored stands =
-    passes_none (has_key k.table k.cols (values_at k.cols row)) view
-    (⊎_elim (λ other. absurd (true≢false (sym (eq-eqb k.table table of_table) ∙ other))) (λ free. free)
-    (and_cases (k.table == table) (is_taken view row k) (find_none (λ key. key.table == table && is_taken view row key) cat.keys
-    (found_none row _ (neither table row (find (holds_null row) (not_null_cols (slice_get cat.tables table))) (duplicate_fault cat view table row) none).1) k c)))
-    n stored stands
+    passes_none (has_key k.table k.cols (values_at k.cols row)) view (by_test (and_cases _ _ fails)) n stored stands
+  where
+    free : duplicate_fault cat view table row ≡ None
+    free = (neither table row (find (holds_null row) (not_null_cols (slice_get cat.tables table))) (duplicate_fault cat view table row) none).1
+
+    fails : (k.table == table && is_taken view row k) ≡ false
+    fails = find_none (λ key. key.table == table && is_taken view row key) cat.keys (found_none row (find (λ key. key.table == table && is_taken view row key) cat.keys) free) k c
+
+    by_test : ((k.table == table) ≡ false) ⊎ (is_taken view row k ≡ false) → is_taken view row k ≡ false
+    by_test (inl other) = absurd (true≢false (sym (eq-eqb k.table table of_table) ∙ other))
+    by_test (inr not_taken) = not_taken
 
 -- a trigger that fires on the change is among those that queue an event
 queued_from : (first table : ℕ) (op : Op) (triggers : List Trigger) (n : ℕ) (trigger : Trigger) → slice_get triggers n ≡ Some trigger → fires_on table op trigger ≡ true

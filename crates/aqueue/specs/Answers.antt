@@ -10,7 +10,7 @@ use Rattle.aq_base.specs.declared.script.Script.{Script}
 use Rattle.aq_parse.specs.Reading.{Reads, HasNoReading, not_built}
 use Rattle.aq_run.specs.Runs.{Schedule, run, Is_schedule, Is_complete, Is_default_schedule}
 use Rattle.aq_run.specs.Texts.{line, text}
-use Rattle.aq_run.specs.Told.{TellsSchedule}
+use Rattle.aq_run.specs.Told.{Tells_schedule}
 use Rattle.aq_laws.specs.Committed.{Databases_stand}
 
 -- ---- the words, and the lines that are no text of a run
@@ -37,17 +37,21 @@ refusal_line number fault = line (codes "aqueue: line " ++ decimal number ++ cod
 
 -- ---- the text of a run
 
--- The text is that of the run of the script that the bytes are, by the default schedule; its last line tells that schedule,
--- after which all sessions have ended; and every database of the run satisfies every foreign key and every unique key.
-pub record IsReplay (bytes : List ℕ) (output : Text) : Type 0 where
-  pub script : Script
+-- The output is the text of the script's run by the default schedule. Its last line tells that schedule, after which all
+-- sessions have ended; and every database of the run satisfies every foreign key and every unique key.
+pub record IsTextOf (script : Script) (output : Text) : Type 0 where
   pub schedule : Schedule
-  pub read : Reads bytes script
   pub by_default : Is_default_schedule (program_of script) schedule
   pub printed : output ≡ text (program_of script) schedule
-  pub told : TellsSchedule (program_of script).names output schedule
+  pub told : Tells_schedule (program_of script).names output schedule
   pub complete : Is_complete (program_of script) schedule
   pub stand : Databases_stand (program_of script) (run (program_of script) schedule)
+
+-- the output is the text of a script that the bytes are
+pub record IsReplay (bytes : List ℕ) (output : Text) : Type 0 where
+  pub script : Script
+  pub read : Reads bytes script
+  pub is_text : IsTextOf script output
 
 -- ---- the status, with what is written where the sink takes all of it
 

@@ -1,3 +1,3 @@
 pub mod Answers
-pub mod Replays
+pub mod Faults
 pub mod Outcomes

@@ -9,10 +9,12 @@ use crate::program::aqueue;
 use aq_base::{List, NoMemory, TextVal};
 use aq_causes::{StdSink, StdSource};
 use std::process::ExitCode;
+use std::rt::Env;
 use std::{env, io};
 
 #[cfg(test)]
 mod tests;
+
 
 // The words after the program's name. Words that are no text are no list that is built, as no words are.
 fn words<R: Env + AllocGlobal>(rt: &R) -> Result<List<TextVal>, NoMemory> {

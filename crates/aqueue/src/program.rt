@@ -1,11 +1,12 @@
 //! The top call: all that the program does.
 
-ghost use Rattle.std.specs.Prelude.{◌≡◌, ℕ, ◌<◌, ◌≤◌, [], ◌∷◌, true, false, length, take, Some, IfOk, IfSome};
+ghost use Rattle.std.specs.Prelude.{◌≡◌, ℕ, ◌<◌, ◌≤◌, List, [], ◌∷◌, true, false, length, Some, IfOk, IfSome};
 ghost use Rattle.std.specs.Io.KnownBytes.{Keeps, Appends};
-ghost use Rattle.aq_base.specs.declared.fault.SqlFault.{SqlFault};
 ghost use Rattle.aq_causes.specs.Counts.{Rose};
 ghost use Rattle.aq_parse.specs.Reading.{Reads, HasNoReading, not_built};
-ghost use Rattle.aqueue.specs.Answers.{are_replay, script_limit, usage_line, too_long_line, refusal_line, IsReplay, IsAnswer, is_one_of};
+ghost use Rattle.aqueue.specs.Answers.{are_replay, script_limit, usage_line, too_long_line, refusal_line, IsReplay, IsAnswer, Wrote, WroteBeginning, is_one_of};
+ghost use Rattle.aq_base.specs.Names.{Text};
+ghost use Rattle.aq_base.specs.declared.script.Script.{Script};
 ghost use Rattle.aqueue.specs.Outcomes.{OutcomeCases};
 
 use crate::replay::{RunFault, replay_script};
@@ -34,7 +35,7 @@ fn is_replay(words: &List<TextVal>) -> bool
     ensures { result ≡ are_replay words.now }
 {
     match words.as_slice() {
-        [word] => word.bytes() == b"replay",
+        [word] => word.bytes() == b"replay".as_slice(),
         _ => false,
     }
 }
@@ -72,7 +73,7 @@ fn replayed(alloc: Global, bytes: &[u8]) -> Result<Outcome, NoMemory>
     }
 }
 
-fn outcome<S: Source>(alloc: Global, words: &List<TextVal>, input: &mut S) -> Result<Outcome, NoMemory>
+fn prepared<S: Source>(alloc: Global, words: &List<TextVal>, input: &mut S) -> Result<Outcome, NoMemory>
     ensures cases { IfOk result (OutcomeCases words.now (S.left input.old) (S.faults input.old) (S.faults input.new)) }
     ensures count { S.faults input.old ≤ S.faults input.new }
 {
@@ -128,7 +129,7 @@ pub fn aqueue<S: Source, K: Sink>(alloc: Global, words: &List<TextVal>, input: &
     ensures source_count { S.faults input.old ≤ S.faults input.new }
     ensures sink_count { K.faults output.old ≤ K.faults output.new }
 {
-    match outcome(alloc, words, input) {
+    match prepared(alloc, words, input) {
         Err(NoMemory) => 6,
         Ok(Outcome::ReadFailed) => 4,
         Ok(Outcome::Writes { status, text }) => match write_all(output, text.as_slice()) {

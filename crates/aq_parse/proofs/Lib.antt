@@ -1,0 +1,10 @@
+pub mod Tests
+pub mod Lexing
+pub mod Fronts
+pub mod Listing
+pub mod Readers
+pub mod Trees
+pub mod Sections
+pub mod Kept
+pub mod Stands
+pub mod Whole

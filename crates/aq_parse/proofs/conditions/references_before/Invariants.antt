@@ -1,0 +1,7 @@
+use Rattle.std.proofs.Common.{◌≡◌, ◌+◌, ◌-◌, ◌^◌, length, take, min}
+use Rattle.std.specs.List.{sum_by}
+use Rattle.aq_parse.specs.Conditions.{references_before}
+use Rattle.aq_parse.proofs.conditions.references_before.Given as goal
+
+abbrev pub invariant-loop-placed : goal.invariant-loop-placed
+invariant-loop-placed l = l.total ≡ min (references_before (take l.placed-index l.earlier)) (2 ^ 64 - 1)

@@ -1,0 +1,87 @@
+-- The names and limits of a script, by the statements that stand before a place.
+use Rattle.std.specs.Prelude.{ℕ, ◌+◌, Bool, true, false, ◌&&◌, ◌==◌, List, [], ◌∷◌, ◌++◌, length, map, Option, Some, None, is_none, count_by, sum_by, nat_lt, nat_le, if◌then◌else◌}
+use Rattle.std.specs.List.{list_all, list_any}
+use Rattle.std.specs.Option.{option_or}
+use Rattle.aq_base.specs.Values.{Row}
+use Rattle.aq_base.specs.Names.{Text, same_text, is_name, is_short, all_differ, primary_key_name, foreign_key_name}
+use Rattle.aq_base.specs.Scripts.{is_primary, is_reference, rows_in_session}
+use Rattle.aq_base.specs.declared.script.ColumnConstraint.{ColumnConstraint}
+use Rattle.aq_base.specs.declared.script.ColumnConstraint.TheVariants.{PrimaryKey, References}
+use Rattle.aq_base.specs.declared.script.ColumnItem.{ColumnItem}
+use Rattle.aq_base.specs.declared.script.Statement.{Statement}
+use Rattle.aq_base.specs.declared.script.Statement.TheVariants.{CreateTable, Insert}
+use Rattle.aq_base.specs.declared.script.Placed.{Placed}
+use Rattle.aq_base.specs.declared.script.SessionText.{SessionText}
+use Rattle.aq_base.specs.declared.script.Script.{Script}
+
+-- the columns of a statement that creates a table of a name
+abbrev pub created : Text → Statement → Option (List ColumnItem)
+created name (CreateTable table items) = if same_text table name then Some items else None
+created name (Insert table rows) = None
+
+-- the columns of the first table of a name that statements create
+abbrev pub items_named : List Placed → Text → Option (List ColumnItem)
+items_named [] name = None
+items_named (placed ∷ others) name = option_or (created name placed.statement) (items_named others name)
+
+abbrev pub primaries_in : List ColumnItem → ℕ
+primaries_in items = count_by (λ item. is_primary item.constraint) items
+
+abbrev pub references_in : List ColumnItem → ℕ
+references_in items = count_by (λ item. is_reference item.constraint) items
+
+-- the columns are there, and one of them is a primary key
+abbrev pub has_primary : Option (List ColumnItem) → Bool
+has_primary None = false
+has_primary (Some items) = list_any (λ item. is_primary item.constraint) items
+
+abbrev pub constraint_kept : List Placed → Text → Text → Option ColumnConstraint → Bool
+constraint_kept earlier table col None = true
+constraint_kept earlier table col (Some PrimaryKey) = is_short (primary_key_name table)
+constraint_kept earlier table col (Some (References parent)) =
+    is_name parent && has_primary (items_named earlier parent) && is_short (foreign_key_name table col)
+
+abbrev pub column_kept : List Placed → Text → ColumnItem → Bool
+column_kept earlier table item = is_name item.name && constraint_kept earlier table item.name item.constraint
+
+abbrev pub statement_references : Statement → ℕ
+statement_references (CreateTable table items) = references_in items
+statement_references (Insert table rows) = 0
+
+-- the foreign keys that statements make
+abbrev pub references_before : List Placed → ℕ
+references_before earlier = sum_by (λ placed. statement_references placed.statement) earlier
+
+abbrev pub create_kept : List Placed → Text → List ColumnItem → Bool
+create_kept earlier table items =
+    is_name table && is_none (items_named earlier table) && nat_lt (length earlier) 64 && nat_le (length items) 32
+    && all_differ (map (λ item. item.name) items) && list_all (column_kept earlier table) items
+    && nat_le (primaries_in items) 1 && nat_le (references_before earlier + references_in items) 128
+
+abbrev pub definition_kept : List Placed → Statement → Bool
+definition_kept earlier (CreateTable table items) = create_kept earlier table items
+definition_kept earlier (Insert table rows) = false
+
+abbrev pub setup_kept : List Placed → List Placed → Bool
+setup_kept earlier [] = true
+setup_kept earlier (placed ∷ others) = definition_kept earlier placed.statement && setup_kept (earlier ++ placed ∷ []) others
+
+abbrev pub rows_kept : Option (List ColumnItem) → List Row → Bool
+rows_kept None rows = false
+rows_kept (Some items) rows = list_all (λ (row : Row). length row == length items) rows
+
+abbrev pub run_kept : List Placed → Statement → Bool
+run_kept setup (CreateTable table items) = false
+run_kept setup (Insert table rows) = is_name table && rows_kept (items_named setup table) rows
+
+abbrev pub session_kept : List Placed → SessionText → Bool
+session_kept setup session = is_name session.name && list_all (λ placed. run_kept setup placed.statement) session.statements
+
+abbrev pub statements_in : Script → ℕ
+statements_in script = length script.setup + sum_by (λ session. length session.statements) script.sessions
+
+unfoldable pub script_kept : Script → Bool
+script_kept script =
+    is_none script.schedule && nat_le (length script.sessions) 1 && nat_le (statements_in script) 65536
+    && nat_le (sum_by rows_in_session script.sessions) 1000
+    && setup_kept [] script.setup && list_all (session_kept script.setup) script.sessions
