@@ -6,7 +6,7 @@ use Rattle.aq_base.specs.Values.{Row}
 use Rattle.aq_base.specs.Maps.{at, with_at}
 use Rattle.aq_base.specs.Databases.{Database, Stored}
 use Rattle.aq_base.specs.Writes.{Write, Writes, with_image, overlay}
-use Rattle.aq_base.proofs.Maps.{Keys_rise, Adds, Removes, at-first, at-rest, at-first_alone, at-with_at_same, at-with_at_other, Keys_rise-rest, Keys_rise-with_at, Keys_rise-without, Adds-with_at, Removes-without}
+use Rattle.aq_base.proofs.Maps.{KeysRise, Adds, Removes, at-first, at-rest, at-first_alone, at-with_at_same, at-with_at_other, KeysRise-rest, KeysRise-with_at, KeysRise-without, Adds-with_at, Removes-without}
 
 -- a version as the commit with that number stores it; none where the row is deleted
 abbrev pub stored_by : ℕ → ℕ → Option Row → Option Stored
@@ -22,9 +22,9 @@ abbrev pub newest : ℕ → Option Write → Option Stored → Option Stored
 newest commit None had = had
 newest commit (Some write) had = stored_by commit write.table write.image
 
-Keys_rise-with_image : (commit row table : ℕ) (image : Option Row) (db : Database) → Keys_rise db → Keys_rise (with_image commit row table image db)
-Keys_rise-with_image commit row table None db rise = Keys_rise-without row db rise
-Keys_rise-with_image commit row table (Some values) db rise = Keys_rise-with_at row (record { table = table; values = values; commit = commit }) db rise
+KeysRise-with_image : (commit row table : ℕ) (image : Option Row) (db : Database) → KeysRise db → KeysRise (with_image commit row table image db)
+KeysRise-with_image commit row table None db rise = KeysRise-without row db rise
+KeysRise-with_image commit row table (Some values) db rise = KeysRise-with_at row (record { table = table; values = values; commit = commit }) db rise
 
 at-with_image_same : (commit row table : ℕ) (image : Option Row) (db : Database) → at row (with_image commit row table image db) ≡ stored_by commit table image
 at-with_image_same commit row table None db = (Removes-without row db).gone
@@ -34,14 +34,14 @@ at-with_image_other : (q commit row table : ℕ) (image : Option Row) (db : Data
 at-with_image_other q commit row table None db other = (Removes-without row db).elsewhere q other
 at-with_image_other q commit row table (Some values) db other = at-with_at_other q row (record { table = table; values = values; commit = commit }) db other
 
-pub Keys_rise-overlay : (commit : ℕ) (writes : Writes) (db : Database) → Keys_rise db → Keys_rise (overlay commit writes db)
-Keys_rise-overlay commit [] db rise = rise
-Keys_rise-overlay commit (entry ∷ writes) db rise =
-    Keys_rise-overlay commit writes (with_image commit entry.0 entry.1.table entry.1.image db) (Keys_rise-with_image commit entry.0 entry.1.table entry.1.image db rise)
+pub KeysRise-overlay : (commit : ℕ) (writes : Writes) (db : Database) → KeysRise db → KeysRise (overlay commit writes db)
+KeysRise-overlay commit [] db rise = rise
+KeysRise-overlay commit (entry ∷ writes) db rise =
+    KeysRise-overlay commit writes (with_image commit entry.0 entry.1.table entry.1.image db) (KeysRise-with_image commit entry.0 entry.1.table entry.1.image db rise)
 
-pub at-overlay : (commit : ℕ) (writes : Writes) (db : Database) (q : ℕ) → Keys_rise writes → at q (overlay commit writes db) ≡ newest commit (at q writes) (at q db)
+pub at-overlay : (commit : ℕ) (writes : Writes) (db : Database) (q : ℕ) → KeysRise writes → at q (overlay commit writes db) ≡ newest commit (at q writes) (at q db)
 at-overlay commit [] db q rise = refl
-at-overlay commit (entry ∷ writes) db q rise = by_key (cases_eq q entry.0) (at-overlay commit writes with_first q (Keys_rise-rest entry writes rise))
+at-overlay commit (entry ∷ writes) db q rise = by_key (cases_eq q entry.0) (at-overlay commit writes with_first q (KeysRise-rest entry writes rise))
   where
     with_first : Database
     with_first = with_image commit entry.0 entry.1.table entry.1.image db
@@ -58,12 +58,12 @@ at-overlay commit (entry ∷ writes) db q rise = by_key (cases_eq q entry.0) (at
         rest ∙ ap (newest commit (at q writes)) stays ∙ sym (ap (λ w. newest commit w (at q db)) (at-rest q entry writes other))
 
 -- a new row of the writes is a new row of what the transaction sees
-pub Adds-overlay : (commit n table number : ℕ) (values : Row) (writes : Writes) (db : Database) → Keys_rise writes → at n writes ≡ None → at n db ≡ None
+pub Adds-overlay : (commit n table number : ℕ) (values : Row) (writes : Writes) (db : Database) → KeysRise writes → at n writes ≡ None → at n db ≡ None
     → Adds n (record { table = table; values = values; commit = commit }) (overlay commit writes db)
     (overlay commit (with_at n (record { table = table; image = Some values; number = number }) writes) db)
 Adds-overlay commit n table number values writes db rise unwritten absent =
     let write : Write = record { table = table; image = Some values; number = number } in
-    let rise_after = Keys_rise-with_at n write writes rise in
+    let rise_after = KeysRise-with_at n write writes rise in
     let placed = Adds-with_at n write writes unwritten in
     let before = at-overlay commit writes db in
     let after = at-overlay commit (with_at n write writes) db in
@@ -74,11 +74,11 @@ Adds-overlay commit n table number values writes db rise unwritten absent =
     }
 
 -- a row that the writes delete is gone from what the transaction sees
-pub Removes-overlay : (commit n table number : ℕ) (writes : Writes) (db : Database) → Keys_rise writes
+pub Removes-overlay : (commit n table number : ℕ) (writes : Writes) (db : Database) → KeysRise writes
     → Removes n (overlay commit writes db) (overlay commit (with_at n (record { table = table; image = None; number = number }) writes) db)
 Removes-overlay commit n table number writes db rise =
     let write : Write = record { table = table; image = None; number = number } in
-    let rise_after = Keys_rise-with_at n write writes rise in
+    let rise_after = KeysRise-with_at n write writes rise in
     let before = at-overlay commit writes db in
     let after = at-overlay commit (with_at n write writes) db in
     record {

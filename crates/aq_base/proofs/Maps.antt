@@ -12,8 +12,8 @@ use Rattle.aq_base.specs.Maps.{at, with_at, without}
 use Rattle.aq_base.proofs.Lists.{Contains-none, Contains-cons_cases}
 
 -- the keys rise, so that each stands once
-abbrev pub Keys_rise : {X : Type 0} → List (ℕ × X) → Type 0
-Keys_rise entries = T (is_sorted nat_cmp entries)
+abbrev pub KeysRise : {X : Type 0} → List (ℕ × X) → Type 0
+KeysRise entries = T (is_sorted nat_cmp entries)
 
 -- the second map is the first with a value at a number where it had none
 pub record Adds {X : Type 0} (n : ℕ) (x : X) (before after : List (ℕ × X)) : Type 0 where
@@ -33,8 +33,8 @@ at-with_at_same n x entries = at-with_at n n x entries ∙ ap (λ b. cond b (Som
 pub at-with_at_other : {X : Type 0} (q n : ℕ) (x : X) (entries : List (ℕ × X)) → q ≢ n → at q (with_at n x entries) ≡ at q entries
 at-with_at_other q n x entries other = at-with_at q n x entries ∙ ap (λ b. cond b (Some x) (at q entries)) (ne_eqb q n other)
 
-pub Keys_rise-with_at : {X : Type 0} (n : ℕ) (x : X) (entries : List (ℕ × X)) → Keys_rise entries → Keys_rise (with_at n x entries)
-Keys_rise-with_at n x entries rise = is_sorted-put nat_cmp nat_cmp_total n x entries rise
+pub KeysRise-with_at : {X : Type 0} (n : ℕ) (x : X) (entries : List (ℕ × X)) → KeysRise entries → KeysRise (with_at n x entries)
+KeysRise-with_at n x entries rise = is_sorted-put nat_cmp nat_cmp_total n x entries rise
 
 pub Adds-with_at : {X : Type 0} (n : ℕ) (x : X) (entries : List (ℕ × X)) → at n entries ≡ None → Adds n x entries (with_at n x entries)
 Adds-with_at n x entries free = record { free = free; here = at-with_at_same n x entries; elsewhere = λ q other. at-with_at_other q n x entries other }
@@ -67,8 +67,8 @@ Removes-without n entries =
       elsewhere = λ q other. at-without q n entries ∙ ap (λ b. cond (not b) (at q entries) None) (ne_eqb q n other);
     }
 
-pub Keys_rise-without : {X : Type 0} (n : ℕ) (entries : List (ℕ × X)) → Keys_rise entries → Keys_rise (without n entries)
-Keys_rise-without n entries rise = is_sorted-where_key nat_cmp (λ k. not (k == n)) entries rise
+pub KeysRise-without : {X : Type 0} (n : ℕ) (entries : List (ℕ × X)) → KeysRise entries → KeysRise (without n entries)
+KeysRise-without n entries rise = is_sorted-where_key nat_cmp (λ k. not (k == n)) entries rise
 
 -- what is left stands elsewhere, and was there
 pub Removes-left : {X : Type 0} (n : ℕ) (before after : List (ℕ × X)) → Removes n before after → (q : ℕ) (x : X) → at q after ≡ Some x → (q ≢ n) × (at q before ≡ Some x)
@@ -101,16 +101,16 @@ at-below n (entry ∷ entries) less =
     at-rest n entry entries (λ same. omega arith) ∙ at-below n entries both.1
 
 -- the first key isn't among the others
-pub at-first_alone : {X : Type 0} (entry : ℕ × X) (entries : List (ℕ × X)) → Keys_rise (entry ∷ entries) → at entry.0 entries ≡ None
+pub at-first_alone : {X : Type 0} (entry : ℕ × X) (entries : List (ℕ × X)) → KeysRise (entry ∷ entries) → at entry.0 entries ≡ None
 at-first_alone entry entries rise = at-below entry.0 entries (parts _ _ rise).0
 
-pub Keys_rise-rest : {X : Type 0} (entry : ℕ × X) (entries : List (ℕ × X)) → Keys_rise (entry ∷ entries) → Keys_rise entries
-Keys_rise-rest entry entries rise = (parts _ _ rise).1
+pub KeysRise-rest : {X : Type 0} (entry : ℕ × X) (entries : List (ℕ × X)) → KeysRise (entry ∷ entries) → KeysRise entries
+KeysRise-rest entry entries rise = (parts _ _ rise).1
 
 -- each entry stands at its key
-pub at-Contains : {X : Type 0} (entry : ℕ × X) (entries : List (ℕ × X)) → Keys_rise entries → Contains entries entry → at entry.0 entries ≡ Some entry.1
+pub at-Contains : {X : Type 0} (entry : ℕ × X) (entries : List (ℕ × X)) → KeysRise entries → Contains entries entry → at entry.0 entries ≡ Some entry.1
 at-Contains entry [] rise c = absurd (Contains-none entry c)
-at-Contains entry (first ∷ entries) rise c = by_place (Contains-cons_cases first entry entries c) (λ later. at-Contains entry entries (Keys_rise-rest first entries rise) later)
+at-Contains entry (first ∷ entries) rise c = by_place (Contains-cons_cases first entry entries c) (λ later. at-Contains entry entries (KeysRise-rest first entries rise) later)
   where
     behind : at entry.0 entries ≡ Some entry.1 → at entry.0 (first ∷ entries) ≡ Some entry.1
     behind stands =
@@ -127,9 +127,9 @@ pub record Passing {X : Type 0} (p : X → Bool) (entries : List (ℕ × X)) : T
   pub stands : at number entries ≡ Some value
   pub passes : p value ≡ true
 
-pub Passing-any : {X : Type 0} (p : X → Bool) (entries : List (ℕ × X)) → Keys_rise entries → list_any (λ entry. p entry.1) entries ≡ true → Passing p entries
+pub Passing-any : {X : Type 0} (p : X → Bool) (entries : List (ℕ × X)) → KeysRise entries → list_any (λ entry. p entry.1) entries ≡ true → Passing p entries
 Passing-any p [] rise any = absurd (false≢true any)
-Passing-any {X} p (entry ∷ entries) rise any = ⊎_elim first (λ later. with_first (Passing-any p entries (Keys_rise-rest entry entries rise) later)) (or_cases _ _ any)
+Passing-any {X} p (entry ∷ entries) rise any = ⊎_elim first (λ later. with_first (Passing-any p entries (KeysRise-rest entry entries rise) later)) (or_cases _ _ any)
   where
     first : p entry.1 ≡ true → Passing p (entry ∷ entries)
     first passes = record { number = entry.0; value = entry.1; stands = at-first entry entries; passes = passes }

@@ -21,7 +21,7 @@ use Rattle.aq_base.specs.declared.script.Script.{Script}
 use Rattle.aq_base.proofs.Lists.{slice_get-append, slice_get-behind, slice_get-behind_next, slice_get-push_cases}
 
 -- a trigger of a table that fires on these changes, at once or at the commit, and does this
-pub record Has_trigger (triggers : List Trigger) (table : ℕ) (ops : List Op) (decl : Decl) (does : Does) : Type 0 where
+pub record HasTrigger (triggers : List Trigger) (table : ℕ) (ops : List Op) (decl : Decl) (does : Does) : Type 0 where
   pub number : ℕ
   pub trigger : Trigger
   pub stands : slice_get triggers number ≡ Some trigger
@@ -32,15 +32,15 @@ pub record Has_trigger (triggers : List Trigger) (table : ℕ) (ops : List Op) (
 
 -- the foreign key with a number: its child table's new and changed rows are checked, and its parent table's changed and deleted ones,
 -- both at once or both at the commit
-pub record Is_enforced (triggers : List Trigger) (fk : ℕ) (f : ForeignKey) : Type 0 where
+pub record IsEnforced (triggers : List Trigger) (fk : ℕ) (f : ForeignKey) : Type 0 where
   pub decl : Decl
-  pub of_child : Has_trigger triggers f.child (On_insert ∷ On_update ∷ []) decl (Check fk)
-  pub of_parent : Has_trigger triggers f.parent (On_update ∷ On_delete ∷ []) decl (Parent fk)
+  pub of_child : HasTrigger triggers f.child (On_insert ∷ On_update ∷ []) decl (Check fk)
+  pub of_parent : HasTrigger triggers f.parent (On_update ∷ On_delete ∷ []) decl (Parent fk)
 
-abbrev pub Foreign_keys_are_enforced : Catalog → Type 0
-Foreign_keys_are_enforced cat = (fk : ℕ) (f : ForeignKey) → slice_get cat.fks fk ≡ Some f → Is_enforced cat.triggers fk f
+abbrev pub ForeignKeysAreEnforced : Catalog → Type 0
+ForeignKeysAreEnforced cat = (fk : ℕ) (f : ForeignKey) → slice_get cat.fks fk ≡ Some f → IsEnforced cat.triggers fk f
 
-has_more : (triggers more : List Trigger) (table : ℕ) (ops : List Op) (decl : Decl) (does : Does) → Has_trigger triggers table ops decl does → Has_trigger (triggers ++ more) table ops decl does
+has_more : (triggers more : List Trigger) (table : ℕ) (ops : List Op) (decl : Decl) (does : Does) → HasTrigger triggers table ops decl does → HasTrigger (triggers ++ more) table ops decl does
 has_more triggers more table ops decl does has =
     record {
       number = has.number;
@@ -52,7 +52,7 @@ has_more triggers more table ops decl does has =
       with_does = has.with_does;
     }
 
-enforced_more : (triggers more : List Trigger) (fk : ℕ) (f : ForeignKey) → Is_enforced triggers fk f → Is_enforced (triggers ++ more) fk f
+enforced_more : (triggers more : List Trigger) (fk : ℕ) (f : ForeignKey) → IsEnforced triggers fk f → IsEnforced (triggers ++ more) fk f
 enforced_more triggers more fk f is =
     record {
       decl = is.decl;
@@ -60,19 +60,19 @@ enforced_more triggers more fk f is =
       of_parent = has_more triggers more f.parent (On_update ∷ On_delete ∷ []) is.decl (Parent fk) is.of_parent;
     }
 
-keys_keep : (number : ℕ) (table : Text) (col : ℕ) (items : List ColumnItem) (cat : Catalog) → Foreign_keys_are_enforced cat → Foreign_keys_are_enforced (adds_keys number table col items cat)
+keys_keep : (number : ℕ) (table : Text) (col : ℕ) (items : List ColumnItem) (cat : Catalog) → ForeignKeysAreEnforced cat → ForeignKeysAreEnforced (adds_keys number table col items cat)
 keys_keep number table col [] cat enforced = enforced
 keys_keep number table col (item ∷ items) cat enforced =
     keys_keep number table (col + 1) items (adds_key number table col item.constraint cat) (key_keeps item.constraint)
   where
-    key_keeps : (constraint : Option ColumnConstraint) → Foreign_keys_are_enforced (adds_key number table col constraint cat)
+    key_keeps : (constraint : Option ColumnConstraint) → ForeignKeysAreEnforced (adds_key number table col constraint cat)
     key_keeps None = enforced
     key_keeps (Some PrimaryKey) = enforced
     key_keeps (Some (References parent decl)) = enforced
 
 -- the two triggers of a new foreign key
 new_enforced : (triggers : List Trigger) (decl : Decl) (fk : ℕ) (f : ForeignKey)
-    → Is_enforced (triggers ++ record { table = f.parent; ops = On_update ∷ On_delete ∷ []; decl = decl; does = Parent fk }
+    → IsEnforced (triggers ++ record { table = f.parent; ops = On_update ∷ On_delete ∷ []; decl = decl; does = Parent fk }
     ∷ record { table = f.child; ops = On_insert ∷ On_update ∷ []; decl = decl; does = Check fk } ∷ []) fk f
 new_enforced triggers decl fk f =
     let look : Trigger = record { table = f.parent; ops = On_update ∷ On_delete ∷ []; decl = decl; does = Parent fk } in
@@ -99,8 +99,8 @@ new_enforced triggers decl fk f =
       };
     }
 
-foreign_key_keeps : (number : ℕ) (table : Text) (col : ℕ) (name : Text) (decl : Decl) (parent : Option (ℕ × List ℕ)) (cat : Catalog) → Foreign_keys_are_enforced cat
-    → Foreign_keys_are_enforced (adds_foreign_key number table col name decl parent cat)
+foreign_key_keeps : (number : ℕ) (table : Text) (col : ℕ) (name : Text) (decl : Decl) (parent : Option (ℕ × List ℕ)) (cat : Catalog) → ForeignKeysAreEnforced cat
+    → ForeignKeysAreEnforced (adds_foreign_key number table col name decl parent cat)
 foreign_key_keeps number table col name decl None cat enforced fk f stands = enforced fk f stands
 foreign_key_keeps number table col name decl (Some parent) cat enforced fk f stands = by_place (slice_get-push_cases cat.fks added fk f stands)
   where
@@ -112,23 +112,23 @@ foreign_key_keeps number table col name decl (Some parent) cat enforced fk f sta
         record { table = parent.0; ops = On_update ∷ On_delete ∷ []; decl = decl; does = Parent (length cat.fks) }
         ∷ record { table = number; ops = On_insert ∷ On_update ∷ []; decl = decl; does = Check (length cat.fks) } ∷ []
 
-    by_place : (slice_get cat.fks fk ≡ Some f) ⊎ ((fk ≡ length cat.fks) × (added ≡ f)) → Is_enforced (cat.triggers ++ more) fk f
+    by_place : (slice_get cat.fks fk ≡ Some f) ⊎ ((fk ≡ length cat.fks) × (added ≡ f)) → IsEnforced (cat.triggers ++ more) fk f
     by_place (inl old) = enforced_more cat.triggers more fk f (enforced fk f old)
     by_place (inr new) =
-        let same_key = subst (Is_enforced (cat.triggers ++ more) (length cat.fks)) new.1 (new_enforced cat.triggers decl (length cat.fks) added) in
-        subst (λ n. Is_enforced (cat.triggers ++ more) n f) (sym new.0) same_key
+        let same_key = subst (IsEnforced (cat.triggers ++ more) (length cat.fks)) new.1 (new_enforced cat.triggers decl (length cat.fks) added) in
+        subst (λ n. IsEnforced (cat.triggers ++ more) n f) (sym new.0) same_key
 
-references_keep : (number : ℕ) (table : Text) (col : ℕ) (items : List ColumnItem) (cat : Catalog) → Foreign_keys_are_enforced cat → Foreign_keys_are_enforced (adds_references number table col items cat)
+references_keep : (number : ℕ) (table : Text) (col : ℕ) (items : List ColumnItem) (cat : Catalog) → ForeignKeysAreEnforced cat → ForeignKeysAreEnforced (adds_references number table col items cat)
 references_keep number table col [] cat enforced = enforced
 references_keep number table col (item ∷ items) cat enforced =
     references_keep number table (col + 1) items (adds_reference number table col item.name item.constraint cat) (reference_keeps item.constraint)
   where
-    reference_keeps : (constraint : Option ColumnConstraint) → Foreign_keys_are_enforced (adds_reference number table col item.name constraint cat)
+    reference_keeps : (constraint : Option ColumnConstraint) → ForeignKeysAreEnforced (adds_reference number table col item.name constraint cat)
     reference_keeps None = enforced
     reference_keeps (Some PrimaryKey) = enforced
     reference_keeps (Some (References parent decl)) = foreign_key_keeps number table col item.name decl (referred parent cat) cat enforced
 
-statement_keeps : (statement : Statement) (cat : Catalog) → Foreign_keys_are_enforced cat → Foreign_keys_are_enforced (defines statement cat)
+statement_keeps : (statement : Statement) (cat : Catalog) → ForeignKeysAreEnforced cat → ForeignKeysAreEnforced (defines statement cat)
 statement_keeps (CreateTable table items) cat enforced =
     references_keep (length cat.tables) table 0 items (adds_keys (length cat.tables) table 0 items (adds_table table items cat)) (keys_keep (length cat.tables) table 0 items (adds_table table items cat) enforced)
 statement_keeps (Insert table rows) cat enforced = enforced
@@ -137,9 +137,9 @@ statement_keeps Begin cat enforced = enforced
 statement_keeps Commit cat enforced = enforced
 statement_keeps Rollback cat enforced = enforced
 
-setup_keeps : (cat : Catalog) (setup : List Placed) → Foreign_keys_are_enforced cat → Foreign_keys_are_enforced (setup_from cat setup)
+setup_keeps : (cat : Catalog) (setup : List Placed) → ForeignKeysAreEnforced cat → ForeignKeysAreEnforced (setup_from cat setup)
 setup_keeps cat [] enforced = enforced
 setup_keeps cat (placed ∷ others) enforced = setup_keeps (defines placed.statement cat) others (statement_keeps placed.statement cat enforced)
 
-pub Foreign_keys_are_enforced-catalog_of : (script : Script) → Foreign_keys_are_enforced (catalog_of script)
-Foreign_keys_are_enforced-catalog_of script = setup_keeps no_tables script.setup (λ fk f stands. absurd (none-some f stands))
+pub ForeignKeysAreEnforced-catalog_of : (script : Script) → ForeignKeysAreEnforced (catalog_of script)
+ForeignKeysAreEnforced-catalog_of script = setup_keeps no_tables script.setup (λ fk f stands. absurd (none-some f stands))

@@ -9,26 +9,26 @@ use Rattle.aq_base.specs.declared.catalog.UniqueKey.{UniqueKey}
 use Rattle.aq_base.specs.declared.catalog.ForeignKey.{ForeignKey}
 
 -- a row of the database is in the parent table and has the key
-pub record Has_parent (f : ForeignKey) (key : Row) (db : Database) : Type 0 where
+pub record HasParent (f : ForeignKey) (key : Row) (db : Database) : Type 0 where
   pub number : ℕ
   pub row : Stored
   pub stands : at number db ≡ Some row
   pub has : has_key f.parent f.parent_cols key row ≡ true
 
 -- Each row of a child table whose key has no null has a parent (PostgreSQL manual, page CREATE TABLE, REFERENCES).
-abbrev pub References_hold : List ForeignKey → Database → Type 0
-References_hold fks db =
+abbrev pub ReferencesHold : List ForeignKey → Database → Type 0
+ReferencesHold fks db =
     (f : ForeignKey) → Contains fks f → (number : ℕ) (row : Stored) → at number db ≡ Some row → row.table ≡ f.child →
-    has_no_null (values_at f.child_cols row.values) ≡ true → Has_parent f (values_at f.child_cols row.values) db
+    has_no_null (values_at f.child_cols row.values) ≡ true → HasParent f (values_at f.child_cols row.values) db
 
 -- No two rows of a table agree on the columns of one unique key (PostgreSQL manual, page CREATE TABLE, UNIQUE).
-abbrev pub Keys_are_unique : List UniqueKey → Database → Type 0
-Keys_are_unique keys db =
+abbrev pub KeysAreUnique : List UniqueKey → Database → Type 0
+KeysAreUnique keys db =
     (k : UniqueKey) → Contains keys k → (m n : ℕ) (one other : Stored) → at m db ≡ Some one → at n db ≡ Some other → one.table ≡ k.table → other.table ≡ k.table →
     keys_match (values_at k.cols one.values) (values_at k.cols other.values) ≡ true → m ≡ n
 
 -- No row has a null in a column of its table that holds none (PostgreSQL manual, page CREATE TABLE, NOT NULL).
-abbrev pub Not_null_holds : List Table → Database → Type 0
-Not_null_holds tables db =
+abbrev pub NotNullHolds : List Table → Database → Type 0
+NotNullHolds tables db =
     (number : ℕ) (row : Stored) → at number db ≡ Some row → (table : Table) → slice_get tables row.table ≡ Some table →
     (col : ℕ) → Contains table.not_null col → is_null (unwrap_or (slice_get row.values col) Null) ≡ false

@@ -3,7 +3,7 @@ use Rattle.std.specs.Prelude.{◌≡◌, ◌++◌}
 use Rattle.aq_base.specs.Setup.{program_of}
 use Rattle.aq_base.specs.declared.script.Script.{Script}
 use Rattle.aq_run.specs.States.{State}
-use Rattle.aq_run.specs.Runs.{Schedule, run, Is_schedule, Is_complete, Goes_by_default}
+use Rattle.aq_run.specs.Runs.{Schedule, run, IsSchedule, IsComplete, GoesByDefault}
 
 -- a script, the state of its run, and the sessions that stepped
 pub record Journal : Type 0 where
@@ -14,16 +14,16 @@ pub record Journal : Type 0 where
 -- the state is that of the run of the script by the schedule, in which each session was enabled at its place
 pub record IsJournal (script : Script) (state : State) (schedule : Schedule) : Type 0 where
   pub replay : state ≡ run (program_of script) schedule
-  pub can_run : Is_schedule (program_of script) schedule
+  pub can_run : IsSchedule (program_of script) schedule
 
 -- the same script, and a schedule that goes on from the old one by default
 pub record GoesOn (before after : Journal) : Type 0 where
   pub same_script : after.script ≡ before.script
   pub later : Schedule
   pub schedule : after.schedule ≡ before.schedule ++ later
-  pub by_default : Goes_by_default (program_of before.script) before.state later
+  pub by_default : GoesByDefault (program_of before.script) before.state later
 
 -- and in the end all sessions have ended
 pub record Finishes (before after : Journal) : Type 0 where
   pub goes_on : GoesOn before after
-  pub complete : Is_complete (program_of after.script) after.schedule
+  pub complete : IsComplete (program_of after.script) after.schedule

@@ -4,7 +4,7 @@ ghost use Rattle.std.specs.Prelude.{◌≡◌, [], ◌∷◌, ◌++◌, true, If
 ghost use Rattle.aq_base.specs.Setup.{program_of};
 ghost use Rattle.aq_run.specs.States.{opening};
 ghost use Rattle.aq_run.specs.Steps.{step, is_enabled};
-ghost use Rattle.aq_run.specs.Runs.{Is_least_enabled, run, Is_schedule};
+ghost use Rattle.aq_run.specs.Runs.{IsLeastEnabled, run, IsSchedule};
 ghost use Rattle.aq_run.specs.Texts.{text as run_text};
 ghost use Rattle.aq_journal.specs.Journals.{Journal, IsJournal, Finishes, GoesOn};
 
@@ -76,7 +76,7 @@ impl Shared {
         ensures state { result.now.state ≡ self.now.state }
         ensures script { result.now.script ≡ self.now.script }
         ensures replay { self.now.state ≡ run (program_of self.now.script) self.now.schedule }
-        ensures can_run { Is_schedule (program_of self.now.script) self.now.schedule }
+        ensures can_run { IsSchedule (program_of self.now.script) self.now.schedule }
     {
         &self.machine
     }
@@ -96,7 +96,7 @@ impl Shared {
     }
 
     fn least_enabled(&self) -> Option<SessNo>
-        ensures { MatchOption result ((s : ℕ) → is_enabled self.now.state s ≡ false) (λ s. Is_least_enabled self.now.state s.0) }
+        ensures { MatchOption result ((s : ℕ) → is_enabled self.now.state s ≡ false) (λ s. IsLeastEnabled self.now.state s.0) }
     {
         least_enabled(&self.machine)
     }

@@ -14,9 +14,9 @@ use Rattle.aq_base.specs.Setup.{Program, program_of}
 use Rattle.aq_base.specs.declared.script.Bound.{Bound}
 use Rattle.aq_base.specs.declared.script.Bound.TheVariants.{InsertRows, DeleteRows, BeginBlock, CommitBlock, RollbackBlock}
 use Rattle.aq_base.proofs.Lists.{Contains-none, Contains-first, Contains-later, Contains-cons_cases, Contains-map_from, Kept-filter}
-use Rattle.aq_base.proofs.Maps.{Keys_rise, at-Contains, Removes, Removes-left}
-use Rattle.aq_base.proofs.Databases.{Removes-overlay, Keys_rise-overlay}
-use Rattle.aq_base.proofs.Setup.{Foreign_keys_are_enforced, Foreign_keys_are_enforced-catalog_of}
+use Rattle.aq_base.proofs.Maps.{KeysRise, at-Contains, Removes, Removes-left}
+use Rattle.aq_base.proofs.Databases.{Removes-overlay, KeysRise-overlay}
+use Rattle.aq_base.proofs.Setup.{ForeignKeysAreEnforced, ForeignKeysAreEnforced-catalog_of}
 use Rattle.aq_outcomes.specs.Faults.{Fault}
 use Rattle.aq_outcomes.specs.Faults.Fault.{In_failed_block}
 use Rattle.aq_outcomes.specs.Rows.{insert_fault, insert_events, delete_events, is_deferred, is_immediate}
@@ -29,63 +29,63 @@ use Rattle.aq_run.specs.States.Task.{Rows, Rounds, Committing}
 use Rattle.aq_run.specs.Effects.{Scene, effect, effects}
 use Rattle.aq_run.specs.Steps.{Plan, old_rows, start_plan, insert_plan, delete_plan, rows_plan, answer_of, close_plan, take_plan, level_plan, event_plan, drain_plan, task_plan, effects_of_plan, effects_of, plan_of, statement_at, with_scene, step, is_enabled}
 use Rattle.aq_run.specs.Steps.Plan.{Fails}
-use Rattle.aq_run.specs.Runs.{Schedule, run_from, Can_run_from}
-use Rattle.aq_laws.specs.Committed.{Database_stands, Committed_databases_stand}
-use Rattle.aq_laws.proofs.Sessions.{Can_step-enabled}
-use Rattle.aq_laws.proofs.Invariants.{view_of, History_stands, Work_stands, Target_fits, Targets_fit, with_work, with_level, with_drain, Has_not_failed, Session_stands, Scene_stands, State_stands}
-use Rattle.aq_laws.proofs.Invariants.Has_not_failed.{Is_idle, Is_open}
-use Rattle.aq_laws.proofs.Invariants.Session_stands.{Outside, In_block, In_failed_block, In_rows, In_rounds, In_drain, Over}
-use Rattle.aq_laws.proofs.Events.{Ends_event, Ends_event-event_plan}
-use Rattle.aq_laws.proofs.Events.Ends_event.{Done, Refused}
+use Rattle.aq_run.specs.Runs.{Schedule, run_from, CanRunFrom}
+use Rattle.aq_laws.specs.Committed.{DatabaseStands, CommittedDatabasesStand}
+use Rattle.aq_laws.proofs.Sessions.{CanStep-enabled}
+use Rattle.aq_laws.proofs.Invariants.{view_of, HistoryStands, WorkStands, TargetFits, TargetsFit, with_work, with_level, with_drain, HasNotFailed, SessionStands, SceneStands, StateStands}
+use Rattle.aq_laws.proofs.Invariants.HasNotFailed.{Is_idle, Is_open}
+use Rattle.aq_laws.proofs.Invariants.SessionStands.{Outside, In_block, In_failed_block, In_rows, In_rounds, In_drain, Over}
+use Rattle.aq_laws.proofs.Events.{EndsEvent, EndsEvent-event_plan}
+use Rattle.aq_laws.proofs.Events.EndsEvent.{Done, Refused}
 use Rattle.aq_laws.proofs.Works.{begins, regroups, inserts, draws, deletes, finishes, commits}
-use Rattle.aq_laws.proofs.Rounds.{Same_events-round, Same_events-close}
+use Rattle.aq_laws.proofs.Rounds.{SameEvents-round, SameEvents-close}
 
 -- ---- targets
 
 -- the rows of an INSERT
-new_rows_fit : (view : Database) (table : ℕ) (rows : List Row) → Targets_fit view (Inserting table) (map New_row rows)
+new_rows_fit : (view : Database) (table : ℕ) (rows : List Row) → TargetsFit view (Inserting table) (map New_row rows)
 new_rows_fit view table rows target c =
     let from = Contains-map_from New_row rows target c in
-    subst (Target_fits view (Inserting table)) from.2 tt
+    subst (TargetFits view (Inserting table)) from.2 tt
 
 -- the rows of a table that a DELETE sees
-old_rows_fit : (view : Database) (table : ℕ) → Keys_rise view → Targets_fit view (Deleting table) (old_rows table view)
+old_rows_fit : (view : Database) (table : ℕ) → KeysRise view → TargetsFit view (Deleting table) (old_rows table view)
 old_rows_fit view table rise target c =
     let from = Contains-map_from (λ (entry : ℕ × Stored). Old_row entry.0) (rows_of table view) target c in
     let entry = from.0 in
     let kept = Kept-filter (λ (one : ℕ × Stored). one.1.table == table) view entry from.1 in
     let stands = at-Contains entry view rise kept.was in
     let in_table = eqb-true entry.1.table table kept.passes in
-    subst (Target_fits view (Deleting table)) from.2 (λ stored is. ap (λ r. r.table) (same_Some stored entry.1 (sym is ∙ stands)) ∙ in_table)
+    subst (TargetFits view (Deleting table)) from.2 (λ stored is. ap (λ r. r.table) (same_Some stored entry.1 (sym is ∙ stands)) ∙ in_table)
 
 -- the targets of an INSERT fit whatever is seen
-fit_anywhere : (view view_after : Database) (table : ℕ) (target : Target) → Target_fits view (Inserting table) target → Target_fits view_after (Inserting table) target
+fit_anywhere : (view view_after : Database) (table : ℕ) (target : Target) → TargetFits view (Inserting table) target → TargetFits view_after (Inserting table) target
 fit_anywhere view view_after table (New_row values) fits = tt
 fit_anywhere view view_after table (Old_row number) fits = fits
 
 -- those of a DELETE fit where a row is gone
-fit_without : (view view_after : Database) (row table : ℕ) → Removes row view view_after → (target : Target) → Target_fits view (Deleting table) target → Target_fits view_after (Deleting table) target
+fit_without : (view view_after : Database) (row table : ℕ) → Removes row view view_after → (target : Target) → TargetFits view (Deleting table) target → TargetFits view_after (Deleting table) target
 fit_without view view_after row table removes (New_row values) fits = fits
 fit_without view view_after row table removes (Old_row number) fits = λ stored stands. fits stored (Removes-left row view view_after removes number stored stands).1
 
-module _ (cat : Catalog) (s : ℕ) (world : World) (next : ℕ) (history : History_stands cat world.history world.rows) where
+module _ (cat : Catalog) (s : ℕ) (world : World) (next : ℕ) (history : HistoryStands cat world.history world.rows) where
   abbrev going : Block → List Task → Option Transaction → Session
   going block tasks transaction = record { next = next; block = block; transaction = transaction; tasks = tasks; ended = false }
 
   -- what a plan leaves of a session
   abbrev Keeps : Block → List Task → Option Transaction → Plan → Type 0
-  Keeps block tasks transaction plan = Scene_stands cat (effects cat s (effects_of_plan cat block plan) (record { world = world; me = going block tasks transaction }))
+  Keeps block tasks transaction plan = SceneStands cat (effects cat s (effects_of_plan cat block plan) (record { world = world; me = going block tasks transaction }))
 
   abbrev Stands : Writes → List Event → Type 0
-  Stands writes events = Work_stands cat world.history world.rows world.writes writes events
+  Stands writes events = WorkStands cat world.history world.rows world.writes writes events
 
   abbrev view : Writes → Database
   view writes = view_of world.history writes
 
-  view_rises : (writes : Writes) → Keys_rise (view writes)
-  view_rises writes = Keys_rise-overlay (length world.history) writes (last_of world.history) history.rise
+  view_rises : (writes : Writes) → KeysRise (view writes)
+  view_rises writes = KeysRise-overlay (length world.history) writes (last_of world.history) history.rise
 
-  fault_keeps : (block : Block) → Has_not_failed block → (tasks : List Task) (transaction : Option Transaction) (fault : Fault) → Keeps block tasks transaction (Fails [] fault)
+  fault_keeps : (block : Block) → HasNotFailed block → (tasks : List Task) (transaction : Option Transaction) (fault : Fault) → Keeps block tasks transaction (Fails [] fault)
   unfolding effect
   fault_keeps block Is_idle tasks transaction fault = record { history = history; session = Outside }
   fault_keeps block Is_open tasks transaction fault = record { history = history; session = In_failed_block }
@@ -141,8 +141,8 @@ module _ (cat : Catalog) (s : ℕ) (world : World) (next : ℕ) (history : Histo
 
   -- ---- row and end
 
-  insert_keeps : Foreign_keys_are_enforced cat → (block : Block) → Has_not_failed block → (table : ℕ) (values : Row) (left : List Target) (count : ℕ) (writes : Writes) (deferred queued : List Event)
-      → Targets_fit (view writes) (Inserting table) (New_row values ∷ left) → Stands writes (deferred ++ queued)
+  insert_keeps : ForeignKeysAreEnforced cat → (block : Block) → HasNotFailed block → (table : ℕ) (values : Row) (left : List Target) (count : ℕ) (writes : Writes) (deferred queued : List Event)
+      → TargetsFit (view writes) (Inserting table) (New_row values ∷ left) → Stands writes (deferred ++ queued)
       → (fault : Option Fault) → insert_fault cat (view writes) table values ≡ fault
       → Keeps block (Rows (Inserting table) (New_row values ∷ left) count ∷ []) (with_level writes deferred queued []) (insert_plan table values left count [] fault)
   unfolding effect
@@ -157,8 +157,8 @@ module _ (cat : Catalog) (s : ℕ) (world : World) (next : ℕ) (history : Histo
   insert_keeps enforced block sound table values left count writes deferred queued fit work (Some fault) refused =
       fault_keeps block sound (Rows (Inserting table) (New_row values ∷ left) count ∷ []) (with_level writes deferred queued []) fault
 
-  delete_keeps : Foreign_keys_are_enforced cat → (block : Block) → Has_not_failed block → (table row : ℕ) (left : List Target) (count : ℕ) (writes : Writes) (deferred queued : List Event)
-      → Targets_fit (view writes) (Deleting table) (Old_row row ∷ left) → Stands writes (deferred ++ queued)
+  delete_keeps : ForeignKeysAreEnforced cat → (block : Block) → HasNotFailed block → (table row : ℕ) (left : List Target) (count : ℕ) (writes : Writes) (deferred queued : List Event)
+      → TargetsFit (view writes) (Deleting table) (Old_row row ∷ left) → Stands writes (deferred ++ queued)
       → (stored : Option Stored) → at row (view writes) ≡ stored
       → Keeps block (Rows (Deleting table) (Old_row row ∷ left) count ∷ []) (with_level writes deferred queued []) (delete_plan table row left count [] stored)
   unfolding effect
@@ -178,8 +178,8 @@ module _ (cat : Catalog) (s : ℕ) (world : World) (next : ℕ) (history : Histo
             (rw (← append_assoc) (deletes cat world.history world.rows world.writes writes (deferred ++ queued) table row stored enforced history work stands in_table));
       }
 
-  rows_keep : Foreign_keys_are_enforced cat → (block : Block) → Has_not_failed block → (operation : Operation) (left : List Target) (count : ℕ) (writes : Writes) (deferred queued : List Event)
-      → Targets_fit (view writes) operation left → Stands writes (deferred ++ queued)
+  rows_keep : ForeignKeysAreEnforced cat → (block : Block) → HasNotFailed block → (operation : Operation) (left : List Target) (count : ℕ) (writes : Writes) (deferred queued : List Event)
+      → TargetsFit (view writes) operation left → Stands writes (deferred ++ queued)
       → Keeps block (Rows operation left count ∷ []) (with_level writes deferred queued [])
       (rows_plan cat world (going block (Rows operation left count ∷ []) (with_level writes deferred queued [])) operation left count [])
   unfolding effect
@@ -196,8 +196,8 @@ module _ (cat : Catalog) (s : ℕ) (world : World) (next : ℕ) (history : Histo
   abbrev level_work : Writes → List Event → List Event → List Event → Work
   level_work writes deferred queued round = record { writes = writes; deferred = deferred; opened = record { kind = Level; queued = queued; round = round } ∷ [] }
 
-  level_event_keeps : (block : Block) → Has_not_failed block → (answer : Answer) (writes : Writes) (deferred queued round : List Event) (event : Event) → Stands writes (event ∷ (round ++ (deferred ++ queued)))
-      → (plan : Plan) → Ends_event plan → event_plan cat world (level_work writes deferred queued (event ∷ round)) event ≡ plan
+  level_event_keeps : (block : Block) → HasNotFailed block → (answer : Answer) (writes : Writes) (deferred queued round : List Event) (event : Event) → Stands writes (event ∷ (round ++ (deferred ++ queued)))
+      → (plan : Plan) → EndsEvent plan → event_plan cat world (level_work writes deferred queued (event ∷ round)) event ≡ plan
       → Keeps block (Rounds answer ∷ []) (with_level writes deferred queued (event ∷ round)) plan
   unfolding effect
   level_event_keeps block sound answer writes deferred queued round event work plan Done is =
@@ -209,32 +209,32 @@ module _ (cat : Catalog) (s : ℕ) (world : World) (next : ℕ) (history : Histo
   level_event_keeps block sound answer writes deferred queued round event work plan (Refused fault) is = fault_keeps block sound (Rounds answer ∷ []) (with_level writes deferred queued (event ∷ round)) fault
 
   -- no immediate event is left: in a block the statement is answered, outside one its transaction goes on to the commit
-  close_keeps : (block : Block) → Has_not_failed block → (answer : Answer) (writes : Writes) (deferred queued : List Event) → Stands writes (deferred ++ filter (is_deferred cat) queued)
+  close_keeps : (block : Block) → HasNotFailed block → (answer : Answer) (writes : Writes) (deferred queued : List Event) → Stands writes (deferred ++ filter (is_deferred cat) queued)
       → Keeps block (Rounds answer ∷ []) (with_level writes deferred queued []) (close_plan block answer [])
   unfolding effect
   close_keeps block Is_idle answer writes deferred queued work = record { history = history; session = In_drain answer writes (deferred ++ filter (is_deferred cat) queued) [] work }
   close_keeps block Is_open answer writes deferred queued work = record { history = history; session = In_block writes (deferred ++ filter (is_deferred cat) queued) work }
 
-  take_keeps : (block : Block) → Has_not_failed block → (answer : Answer) (writes : Writes) (deferred queued : List Event) → Stands writes (deferred ++ queued)
+  take_keeps : (block : Block) → HasNotFailed block → (answer : Answer) (writes : Writes) (deferred queued : List Event) → Stands writes (deferred ++ queued)
       → (events : List Event) → filter (is_immediate cat) queued ≡ events
       → Keeps block (Rounds answer ∷ []) (with_level writes deferred queued []) (take_plan block answer [] events)
   unfolding effect
   take_keeps block sound answer writes deferred queued work [] none =
       close_keeps block sound answer writes deferred queued
-      (regroups cat world.history world.rows world.writes writes (deferred ++ queued) (deferred ++ filter (is_deferred cat) queued) (Same_events-close cat deferred queued none) work)
+      (regroups cat world.history world.rows world.writes writes (deferred ++ queued) (deferred ++ filter (is_deferred cat) queued) (SameEvents-close cat deferred queued none) work)
   take_keeps block sound answer writes deferred queued work (event ∷ events) some =
       record {
         history = history;
         session = In_rounds block sound answer writes (deferred ++ filter (is_deferred cat) queued) [] (filter (is_immediate cat) queued)
             (regroups cat world.history world.rows world.writes writes (deferred ++ queued) (filter (is_immediate cat) queued ++ ((deferred ++ filter (is_deferred cat) queued) ++ []))
-            (Same_events-round cat deferred queued) work);
+            (SameEvents-round cat deferred queued) work);
       }
 
-  rounds_keep : (block : Block) → Has_not_failed block → (answer : Answer) (writes : Writes) (deferred queued round : List Event) → Stands writes (round ++ (deferred ++ queued))
+  rounds_keep : (block : Block) → HasNotFailed block → (answer : Answer) (writes : Writes) (deferred queued round : List Event) → Stands writes (round ++ (deferred ++ queued))
       → Keeps block (Rounds answer ∷ []) (with_level writes deferred queued round) (level_plan cat world block (level_work writes deferred queued round) answer [] queued round)
   rounds_keep block sound answer writes deferred queued (event ∷ round) work =
       level_event_keeps block sound answer writes deferred queued round event work (event_plan cat world (level_work writes deferred queued (event ∷ round)) event)
-      (Ends_event-event_plan cat world (level_work writes deferred queued (event ∷ round)) event) refl
+      (EndsEvent-event_plan cat world (level_work writes deferred queued (event ∷ round)) event) refl
   rounds_keep block sound answer writes deferred queued [] work = take_keeps block sound answer writes deferred queued work (filter (is_immediate cat) queued) refl
 
   -- ---- drain and commit
@@ -243,7 +243,7 @@ module _ (cat : Catalog) (s : ℕ) (world : World) (next : ℕ) (history : Histo
   drain_work writes deferred round = record { writes = writes; deferred = deferred; opened = record { kind = Drain; queued = []; round = round } ∷ [] }
 
   drain_event_keeps : (answer : Answer) (writes : Writes) (deferred round : List Event) (event : Event) → Stands writes (event ∷ (round ++ deferred))
-      → (plan : Plan) → Ends_event plan → event_plan cat world (drain_work writes deferred (event ∷ round)) event ≡ plan
+      → (plan : Plan) → EndsEvent plan → event_plan cat world (drain_work writes deferred (event ∷ round)) event ≡ plan
       → Keeps Idle (Committing answer ∷ []) (with_drain writes deferred (event ∷ round)) plan
   unfolding effect
   drain_event_keeps answer writes deferred round event work plan Done is =
@@ -258,15 +258,15 @@ module _ (cat : Catalog) (s : ℕ) (world : World) (next : ℕ) (history : Histo
   unfolding effect
   drain_keeps answer writes deferred (event ∷ round) work =
       drain_event_keeps answer writes deferred round event work (event_plan cat world (drain_work writes deferred (event ∷ round)) event)
-      (Ends_event-event_plan cat world (drain_work writes deferred (event ∷ round)) event) refl
+      (EndsEvent-event_plan cat world (drain_work writes deferred (event ∷ round)) event) refl
   drain_keeps answer writes (event ∷ deferred) [] work = record { history = history; session = In_drain answer writes [] (event ∷ deferred) (rw append-nil work) }
   drain_keeps answer writes [] [] work = record { history = commits cat world.history world.rows world.writes writes history work; session = Outside }
 
   -- ---- whichever step it is
 
-  task_keeps : Foreign_keys_are_enforced cat → (statement : Option Bound) (block : Block) (tasks : List Task) (transaction : Option Transaction) (ended : Bool) → ended ≡ false
-      → Session_stands cat world.history world.rows world.writes block tasks transaction ended
-      → Scene_stands cat (effects cat s (effects_of_plan cat block (task_plan cat world (record { next = next; block = block; transaction = transaction; tasks = tasks; ended = ended }) statement tasks))
+  task_keeps : ForeignKeysAreEnforced cat → (statement : Option Bound) (block : Block) (tasks : List Task) (transaction : Option Transaction) (ended : Bool) → ended ≡ false
+      → SessionStands cat world.history world.rows world.writes block tasks transaction ended
+      → SceneStands cat (effects cat s (effects_of_plan cat block (task_plan cat world (record { next = next; block = block; transaction = transaction; tasks = tasks; ended = ended }) statement tasks))
       (record { world = world; me = record { next = next; block = block; transaction = transaction; tasks = tasks; ended = ended } }))
   task_keeps enforced statement _ _ _ _ goes_on Outside = idle_start_keeps statement
   task_keeps enforced statement _ _ _ _ goes_on (In_block writes deferred work) = open_start_keeps writes deferred work statement
@@ -278,7 +278,7 @@ module _ (cat : Catalog) (s : ℕ) (world : World) (next : ℕ) (history : Histo
   task_keeps enforced statement _ _ _ _ goes_on (Over block) = absurd (true≢false goes_on)
 
 -- with one session, the state stands where its scene does
-with_scene_stands : (cat : Catalog) (st : State) (s : ℕ) (after : Scene) → length st.sessions ≤ 1 → s < length st.sessions → Scene_stands cat after → State_stands cat (with_scene st s after)
+with_scene_stands : (cat : Catalog) (st : State) (s : ℕ) (after : Scene) → length st.sessions ≤ 1 → s < length st.sessions → SceneStands cat after → StateStands cat (with_scene st s after)
 with_scene_stands cat st s after one within stands =
     let same = length-set st.sessions s after.me in
     record {
@@ -286,22 +286,22 @@ with_scene_stands cat st s after one within stands =
       history = stands.history;
       sessions = λ r r_within.
           let least : s ≡ r = omega arith in
-          subst (λ me. Session_stands cat after.world.history after.world.rows after.world.writes me.block me.tasks me.transaction me.ended)
+          subst (λ me. SessionStands cat after.world.history after.world.rows after.world.writes me.block me.tasks me.transaction me.ended)
           (sym (get_or-set_same st.sessions s after.me nobody within) ∙ ap (λ n. slice_index_or (slice_set st.sessions s after.me) n nobody) least) stands.session;
     }
 
 -- the step of an enabled session
-step_keeps : (program : Program) (st : State) (s : ℕ) → Foreign_keys_are_enforced program.catalog → is_enabled st s ≡ true → State_stands program.catalog st → State_stands program.catalog (step program st s)
+step_keeps : (program : Program) (st : State) (s : ℕ) → ForeignKeysAreEnforced program.catalog → is_enabled st s ≡ true → StateStands program.catalog st → StateStands program.catalog (step program st s)
 unfolding step effects_of plan_of
 step_keeps program st s enforced enabled stands =
-    let can = Can_step-enabled st s enabled in
+    let can = CanStep-enabled st s enabled in
     let me = session_at st s in
     with_scene_stands program.catalog st s
     (effects program.catalog s (effects_of_plan program.catalog me.block (task_plan program.catalog st.world me (statement_at program s me.next) me.tasks)) (record { world = st.world; me = me }))
     stands.one can.within
     (task_keeps program.catalog s st.world me.next stands.history enforced (statement_at program s me.next) me.block me.tasks me.transaction me.ended can.goes_on (stands.sessions s can.within))
 
-empty_stands : (cat : Catalog) → Database_stands cat []
+empty_stands : (cat : Catalog) → DatabaseStands cat []
 empty_stands cat =
     record {
       references = λ f c number row stands in_child no_null. absurd (none-some row stands);
@@ -314,26 +314,26 @@ starts [] s within = absurd (omega arith)
 starts (statements ∷ scripts) zero within = refl
 starts (statements ∷ scripts) (suc s) within = starts scripts s (omega arith)
 
-opening_stands : (program : Program) → length program.sessions ≤ 1 → State_stands program.catalog (opening program)
+opening_stands : (program : Program) → length program.sessions ≤ 1 → StateStands program.catalog (opening program)
 opening_stands program one =
     record {
       one = rw length-map one;
       history = record {
-        all = λ db c. ⊎_elim (λ first. subst (Database_stands program.catalog) first (empty_stands program.catalog)) (λ later. absurd (Contains-none db later)) (Contains-cons_cases [] db [] c);
+        all = λ db c. ⊎_elim (λ first. subst (DatabaseStands program.catalog) first (empty_stands program.catalog)) (λ later. absurd (Contains-none db later)) (Contains-cons_cases [] db [] c);
         last = empty_stands program.catalog;
         rise = tt;
         drawn = λ row stored stands. absurd (none-some stored stands);
       };
-      sessions = λ s within. subst (λ me. Session_stands program.catalog ([] ∷ []) 0 0 me.block me.tasks me.transaction me.ended) (sym (starts program.sessions s within)) Outside;
+      sessions = λ s within. subst (λ me. SessionStands program.catalog ([] ∷ []) 0 0 me.block me.tasks me.transaction me.ended) (sym (starts program.sessions s within)) Outside;
     }
 
-run_stands : (program : Program) (st : State) (schedule : Schedule) → Foreign_keys_are_enforced program.catalog → Can_run_from program st schedule → State_stands program.catalog st
-    → State_stands program.catalog (run_from program st schedule)
-unfolding run_from Can_run_from
+run_stands : (program : Program) (st : State) (schedule : Schedule) → ForeignKeysAreEnforced program.catalog → CanRunFrom program st schedule → StateStands program.catalog st
+    → StateStands program.catalog (run_from program st schedule)
+unfolding run_from CanRunFrom
 run_stands program st [] enforced can stands = stands
 run_stands program st (s ∷ schedule) enforced can stands = run_stands program (step program st s) schedule enforced can.1 (step_keeps program st s enforced can.0 stands)
 
-pub committed_databases_stand : Committed_databases_stand
+pub committed_databases_stand : CommittedDatabasesStand
 committed_databases_stand script schedule one can =
     let program = program_of script in
-    (run_stands program (opening program) schedule (Foreign_keys_are_enforced-catalog_of script) can (opening_stands program (rw length-map one))).history.all
+    (run_stands program (opening program) schedule (ForeignKeysAreEnforced-catalog_of script) can (opening_stands program (rw length-map one))).history.all

@@ -15,33 +15,33 @@ use Rattle.aq_run.specs.Steps.{Plan, event_plan, on_trigger, on_does, on_check, 
 use Rattle.aq_run.specs.Steps.Plan.{Does_all, Fails}
 
 -- the event is done, or a fault ends its transaction
-pub data Ends_event : Plan → Type 0 where
-  Done : Ends_event (Does_all (Finishes ∷ []))
-  Refused : (fault : Fault) → Ends_event (Fails [] fault)
+pub data EndsEvent : Plan → Type 0 where
+  Done : EndsEvent (Does_all (Finishes ∷ []))
+  Refused : (fault : Fault) → EndsEvent (Fails [] fault)
 
-ends_checked : (checked : Checked) → Ends_event (check_plan checked)
+ends_checked : (checked : Checked) → EndsEvent (check_plan checked)
 ends_checked Passed = Done
 ends_checked Skipped = Done
 ends_checked (Violated fault) = Refused fault
 
-ends_check : (world : World) (work : Work) (event : Event) (fk : Option ForeignKey) → Ends_event (on_check world work event fk)
+ends_check : (world : World) (work : Work) (event : Event) (fk : Option ForeignKey) → EndsEvent (on_check world work event fk)
 ends_check world work event None = Done
 ends_check world work event (Some fk) = ends_checked (child_check fk event work.writes (latest_view world work))
 
-ends_parent : (world : World) (work : Work) (event : Event) (fk : Option ForeignKey) → Ends_event (on_parent world work event fk)
+ends_parent : (world : World) (work : Work) (event : Event) (fk : Option ForeignKey) → EndsEvent (on_parent world work event fk)
 ends_parent world work event None = Done
 ends_parent world work event (Some fk) = ends_checked (parent_check fk event (latest_view world work))
 
-ends_does : (cat : Catalog) (world : World) (work : Work) (event : Event) (does : Does) → Ends_event (on_does cat world work event does)
+ends_does : (cat : Catalog) (world : World) (work : Work) (event : Event) (does : Does) → EndsEvent (on_does cat world work event does)
 ends_does cat world work event (Check n) = ends_check world work event (slice_get cat.fks n)
 ends_does cat world work event (Parent n) = ends_parent world work event (slice_get cat.fks n)
 
-ends_trigger : (cat : Catalog) (world : World) (work : Work) (event : Event) (trigger : Option Trigger) → Ends_event (on_trigger cat world work event trigger)
+ends_trigger : (cat : Catalog) (world : World) (work : Work) (event : Event) (trigger : Option Trigger) → EndsEvent (on_trigger cat world work event trigger)
 ends_trigger cat world work event None = Done
 ends_trigger cat world work event (Some trigger) = ends_does cat world work event trigger.does
 
-pub Ends_event-event_plan : (cat : Catalog) (world : World) (work : Work) (event : Event) → Ends_event (event_plan cat world work event)
-Ends_event-event_plan cat world work event = ends_trigger cat world work event (slice_get cat.triggers event.trigger)
+pub EndsEvent-event_plan : (cat : Catalog) (world : World) (work : Work) (event : Event) → EndsEvent (event_plan cat world work event)
+EndsEvent-event_plan cat world work event = ends_trigger cat world work event (slice_get cat.triggers event.trigger)
 
 -- the event of a trigger that checks the child rows of a foreign key
 pub event_plan-check : (cat : Catalog) (world : World) (work : Work) (event : Event) (trigger : Trigger) (fk : ℕ) (f : ForeignKey)

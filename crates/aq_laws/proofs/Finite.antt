@@ -27,13 +27,13 @@ use Rattle.aq_run.specs.States.Task.{Rows, Rounds, Committing}
 use Rattle.aq_run.specs.Effects.{Scene, on_top, with_events, effect, effects}
 use Rattle.aq_run.specs.Steps.{Plan, dropped, view_of, old_rows, rows_start, begin_plan, commit_plan, rollback_plan, start_plan, answer_of, statement_at, task_plan, rows_plan, insert_plan, delete_plan, close_plan, take_plan, on_level, level_plan, event_plan, drain_plan, on_drain, effects_of_plan, effects_of, plan_of, step, is_enabled}
 use Rattle.aq_run.specs.Steps.Plan.{Fails}
-use Rattle.aq_run.specs.Runs.{Schedule, Can_run_from}
-use Rattle.aq_laws.specs.Finite.{transaction_rows, statement_rows, task_rows, session_rows, rows_at_most, row_steps, statement_steps, task_steps, level_steps, transaction_steps, session_steps, steps_left, Runs_are_finite}
+use Rattle.aq_run.specs.Runs.{Schedule, CanRunFrom}
+use Rattle.aq_laws.specs.Finite.{transaction_rows, statement_rows, task_rows, session_rows, rows_at_most, row_steps, statement_steps, task_steps, level_steps, transaction_steps, session_steps, steps_left, RunsAreFinite}
 use Rattle.aq_laws.proofs.Lists.{sum_by-drop, length-filter-le, last_of-push}
 use Rattle.aq_laws.proofs.Sizes.{length-overlay, written_rows-with_at, script_of, over_sessions-set, over_sessions-one, over_sessions-le}
-use Rattle.aq_laws.proofs.Events.{Ends_event, Ends_event-event_plan}
-use Rattle.aq_laws.proofs.Events.Ends_event.{Done, Refused}
-use Rattle.aq_laws.proofs.Sessions.{Can_step-enabled}
+use Rattle.aq_laws.proofs.Events.{EndsEvent, EndsEvent-event_plan}
+use Rattle.aq_laws.proofs.Events.EndsEvent.{Done, Refused}
+use Rattle.aq_laws.proofs.Sessions.{CanStep-enabled}
 
 -- a change queues no more events than there are triggers
 length_firing : (number table : ℕ) (op : Op) (triggers : List Trigger) → length (firing_from number table op triggers) ≤ length triggers
@@ -215,7 +215,7 @@ module _ (cat : Catalog) (world : World) (s : ℕ) (statements : List Bound) (at
   with_top writes deferred kind queued round levels = with_opened writes deferred (record { kind = kind; queued = queued; round = round } ∷ levels)
 
   ended_event_falls : (next : ℕ) (block : Block) (writes : Writes) (deferred : List Event) (kind : Kind) (queued round : List Event) (event : Event) (levels : List Opened) (task : Task) (below : List Task) (plan : Plan)
-      → Ends_event plan → Falls (going next block (Some (with_top writes deferred kind queued (event ∷ round) levels)) (task ∷ below)) plan
+      → EndsEvent plan → Falls (going next block (Some (with_top writes deferred kind queued (event ∷ round) levels)) (task ∷ below)) plan
   unfolding effect
   ended_event_falls next block writes deferred kind queued round event levels task below plan Done =
       record {
@@ -231,7 +231,7 @@ module _ (cat : Catalog) (world : World) (s : ℕ) (statements : List Bound) (at
   event_falls next block writes deferred kind queued round event levels task below =
       ended_event_falls next block writes deferred kind queued round event levels task below
       (event_plan cat world (with_top writes deferred kind queued (event ∷ round) levels).work event)
-      (Ends_event-event_plan cat world (with_top writes deferred kind queued (event ∷ round) levels).work event)
+      (EndsEvent-event_plan cat world (with_top writes deferred kind queued (event ∷ round) levels).work event)
 
   -- ---- round and close
 
@@ -344,15 +344,15 @@ abbrev after_step : Catalog → World → ℕ → Session → Option Bound → S
 after_step cat world s me statement = effects cat s (effects_of_plan cat me.block (task_plan cat world me statement me.tasks)) (record { world = world; me = me })
 
 -- what is to be shown of a session that has ended or not
-abbrev Falls_at : Catalog → World → ℕ → List Bound → ℕ → Session → Bool → Type 0
-Falls_at cat world s statements at_most me ended =
+abbrev FallsAt : Catalog → World → ℕ → List Bound → ℕ → Session → Bool → Type 0
+FallsAt cat world s statements at_most me ended =
     let told : Session = record { next = me.next; block = me.block; transaction = me.transaction; tasks = me.tasks; ended = ended } in
     Falls_to cat world s statements at_most told (after_step cat world s told (slice_get statements me.next))
 
 session_falls : (cat : Catalog) (world : World) (s : ℕ) (statements : List Bound) (at_most : ℕ) (me : Session) → me.ended ≡ false → length (view_of world me.transaction) ≤ at_most
     → Falls_to cat world s statements at_most me (after_step cat world s me (slice_get statements me.next))
 session_falls cat world s statements at_most me goes_on few =
-    subst (Falls_at cat world s statements at_most me) (sym goes_on) (task_falls cat world s statements at_most me.next me.block me.transaction me.tasks few)
+    subst (FallsAt cat world s statements at_most me) (sym goes_on) (task_falls cat world s statements at_most me.next me.block me.transaction me.tasks few)
 
 -- ---- all sessions
 
@@ -392,17 +392,17 @@ state_falls program st s scene within falls =
 pub steps_left-step : (program : Program) (st : State) (s : ℕ) → is_enabled st s ≡ true → steps_left program (step program st s) < steps_left program st
 unfolding step effects_of plan_of
 steps_left-step program st s enabled =
-    let can = Can_step-enabled st s enabled in
+    let can = CanStep-enabled st s enabled in
     let me = session_at st s in
     let few : length (view_of st.world me.transaction) ≤ rows_at_most program st = omega (arith, length-view_of st.world me.transaction, over_sessions-one session_rows program.sessions st.sessions s can.within) in
     let falls = session_falls program.catalog st.world s (script_of program.sessions s) (rows_at_most program st) me can.goes_on few in
     let own = statement_at_own program.sessions s me.next in
     state_falls program st s (after_step program.catalog st.world s me (statement_at program s me.next)) can.within (rw own falls)
 
-fits_within : (program : Program) (st : State) (schedule : Schedule) → Can_run_from program st schedule → length schedule ≤ steps_left program st
-unfolding Can_run_from
+fits_within : (program : Program) (st : State) (schedule : Schedule) → CanRunFrom program st schedule → length schedule ≤ steps_left program st
+unfolding CanRunFrom
 fits_within program st [] can = omega arith
 fits_within program st (s ∷ schedule) can = omega (arith, steps_left-step program st s can.0, fits_within program (step program st s) schedule can.1)
 
-pub runs_are_finite : Runs_are_finite
+pub runs_are_finite : RunsAreFinite
 runs_are_finite program schedule can = fits_within program (opening program) schedule can

@@ -6,7 +6,7 @@ use Rattle.aq_base.specs.Catalogs.{Catalog}
 use Rattle.aq_base.specs.Works.{Event}
 use Rattle.aq_base.proofs.Lists.{Contains-filter, Kept-filter}
 use Rattle.aq_outcomes.specs.Rows.{is_deferred, is_immediate}
-use Rattle.aq_laws.proofs.Works.{Same_events}
+use Rattle.aq_laws.proofs.Works.{SameEvents}
 
 -- each event is immediate or deferred
 parted : (cat : Catalog) (queued : List Event) (event : Event) → Contains queued event → Contains (filter (is_immediate cat) queued) event ⊎ Contains (filter (is_deferred cat) queued) event
@@ -17,9 +17,9 @@ parted cat queued event c = by_test (cases_Bool (is_deferred cat event))
     by_test (inr fires) = inl (Contains-filter (is_immediate cat) queued event c (ap not fires))
 
 -- a round is taken from the level, and the others join those that wait for the commit
-pub Same_events-round : (cat : Catalog) (deferred queued : List Event)
-    → Same_events (deferred ++ queued) (filter (is_immediate cat) queued ++ ((deferred ++ filter (is_deferred cat) queued) ++ []))
-Same_events-round cat deferred queued = rw append-nil (record { here = here; there = there })
+pub SameEvents-round : (cat : Catalog) (deferred queued : List Event)
+    → SameEvents (deferred ++ queued) (filter (is_immediate cat) queued ++ ((deferred ++ filter (is_deferred cat) queued) ++ []))
+SameEvents-round cat deferred queued = rw append-nil (record { here = here; there = there })
   where
     round : List Event
     round = filter (is_immediate cat) queued
@@ -50,7 +50,7 @@ Same_events-round cat deferred queued = rw append-nil (record { here = here; the
     there event c = back event (Contains-append_cases round (deferred ++ others) event c)
 
 -- where no event is immediate, all join those that wait for the commit
-pub Same_events-close : (cat : Catalog) (deferred queued : List Event) → filter (is_immediate cat) queued ≡ [] → Same_events (deferred ++ queued) (deferred ++ filter (is_deferred cat) queued)
-Same_events-close cat deferred queued none =
-    subst (λ events. Same_events (deferred ++ queued) (events ++ (deferred ++ filter (is_deferred cat) queued))) none
-    (rw append-nil at (Same_events-round cat deferred queued))
+pub SameEvents-close : (cat : Catalog) (deferred queued : List Event) → filter (is_immediate cat) queued ≡ [] → SameEvents (deferred ++ queued) (deferred ++ filter (is_deferred cat) queued)
+SameEvents-close cat deferred queued none =
+    subst (λ events. SameEvents (deferred ++ queued) (events ++ (deferred ++ filter (is_deferred cat) queued))) none
+    (rw append-nil at (SameEvents-round cat deferred queued))

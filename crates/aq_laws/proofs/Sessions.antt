@@ -9,12 +9,12 @@ use Rattle.aq_run.specs.Effects.{effects}
 use Rattle.aq_run.specs.Runs.{Schedule, run_from, run}
 
 -- an enabled session is one of the state's, and hasn't ended
-pub record Can_step (st : State) (s : ℕ) : Type 0 where
+pub record CanStep (st : State) (s : ℕ) : Type 0 where
   pub within : s < length st.sessions
   pub goes_on : (session_at st s).ended ≡ false
 
-pub Can_step-enabled : (st : State) (s : ℕ) → is_enabled st s ≡ true → Can_step st s
-Can_step-enabled st s enabled = let parts = and_parts _ _ enabled in record { within = ltb-true _ _ parts.0; goes_on = not-true _ parts.1 }
+pub CanStep-enabled : (st : State) (s : ℕ) → is_enabled st s ≡ true → CanStep st s
+CanStep-enabled st s enabled = let parts = and_parts _ _ enabled in record { within = ltb-true _ _ parts.0; goes_on = not-true _ parts.1 }
 
 -- the sessions of a state stay in number
 pub length-step : (program : Program) (st : State) (s : ℕ) → length (step program st s).sessions ≡ length st.sessions

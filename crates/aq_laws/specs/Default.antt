@@ -1,12 +1,12 @@
 -- The default schedule.
 use Rattle.std.specs.Prelude.{◌≡◌}
 use Rattle.aq_base.specs.Setup.{Program}
-use Rattle.aq_run.specs.Runs.{Schedule, Is_default_schedule}
+use Rattle.aq_run.specs.Runs.{Schedule, IsDefaultSchedule}
 
 -- a program has one default schedule at the most
-abbrev pub Default_schedule_is_unique : Type 0
-Default_schedule_is_unique = (program : Program) (v w : Schedule) → Is_default_schedule program v → Is_default_schedule program w → v ≡ w
+abbrev pub DefaultScheduleIsUnique : Type 0
+DefaultScheduleIsUnique = (program : Program) (v w : Schedule) → IsDefaultSchedule program v → IsDefaultSchedule program w → v ≡ w
 
 -- every program has a default schedule
-abbrev pub Default_schedule_exists : Type 0
-Default_schedule_exists = (program : Program) → (schedule : Schedule) × Is_default_schedule program schedule
+abbrev pub DefaultScheduleExists : Type 0
+DefaultScheduleExists = (program : Program) → (schedule : Schedule) × IsDefaultSchedule program schedule

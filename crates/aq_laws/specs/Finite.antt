@@ -10,7 +10,7 @@ use Rattle.aq_base.specs.declared.script.Bound.TheVariants.{InsertRows, DeleteRo
 use Rattle.aq_run.specs.States.{Operation, Target, Task, Transaction, Session, State, opening, last_database}
 use Rattle.aq_run.specs.States.Operation.{Inserting, Deleting}
 use Rattle.aq_run.specs.States.Task.{Rows, Rounds, Committing}
-use Rattle.aq_run.specs.Runs.{Schedule, Is_schedule}
+use Rattle.aq_run.specs.Runs.{Schedule, IsSchedule}
 
 -- a sum over all sessions, each with the statements of its script
 abbrev pub over_sessions : (List Bound → Session → ℕ) → List (List Bound) → List Session → ℕ
@@ -105,5 +105,5 @@ abbrev pub steps_left : Program → State → ℕ
 steps_left program st = over_sessions (session_steps program.catalog (rows_at_most program st)) program.sessions st.sessions
 
 -- no schedule that can be run is longer than the number of the first state
-abbrev pub Runs_are_finite : Type 0
-Runs_are_finite = (program : Program) (schedule : Schedule) → Is_schedule program schedule → length schedule ≤ steps_left program (opening program)
+abbrev pub RunsAreFinite : Type 0
+RunsAreFinite = (program : Program) (schedule : Schedule) → IsSchedule program schedule → length schedule ≤ steps_left program (opening program)

@@ -80,17 +80,17 @@ Contains-delete_events cat table row write values n trigger stands fires =
     Contains-map (λ t. record { trigger = t; row = row; write = write; old = Some values; new = None }) (queued_by cat table Delete) n (Contains-queued_by cat table Delete n trigger stands fires)
 
 -- an event of a change that leaves this image of the row
-pub record Is_of_change (row write : ℕ) (image : Option Row) (event : Event) : Type 0 where
+pub record IsOfChange (row write : ℕ) (image : Option Row) (event : Event) : Type 0 where
   pub of_row : event.row ≡ row
   pub of_write : event.write ≡ write
   pub has_image : event.new ≡ image
 
-pub insert_events-of_change : (cat : Catalog) (table row write : ℕ) (values : Row) (event : Event) → Contains (insert_events cat table row write values) event → Is_of_change row write (Some values) event
+pub insert_events-of_change : (cat : Catalog) (table row write : ℕ) (values : Row) (event : Event) → Contains (insert_events cat table row write values) event → IsOfChange row write (Some values) event
 insert_events-of_change cat table row write values event c =
     let from = Contains-map_from (λ t. record { trigger = t; row = row; write = write; old = None; new = Some values }) (queued_by cat table Insert) event c in
     record { of_row = ap (λ e. e.row) (sym from.2); of_write = ap (λ e. e.write) (sym from.2); has_image = ap (λ e. e.new) (sym from.2) }
 
-pub delete_events-of_change : (cat : Catalog) (table row write : ℕ) (values : Row) (event : Event) → Contains (delete_events cat table row write values) event → Is_of_change row write None event
+pub delete_events-of_change : (cat : Catalog) (table row write : ℕ) (values : Row) (event : Event) → Contains (delete_events cat table row write values) event → IsOfChange row write None event
 delete_events-of_change cat table row write values event c =
     let from = Contains-map_from (λ t. record { trigger = t; row = row; write = write; old = Some values; new = None }) (queued_by cat table Delete) event c in
     record { of_row = ap (λ e. e.row) (sym from.2); of_write = ap (λ e. e.write) (sym from.2); has_image = ap (λ e. e.new) (sym from.2) }

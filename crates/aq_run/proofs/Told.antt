@@ -14,20 +14,20 @@ use Rattle.aq_run.specs.States.{State, Given, at_start, opening, session_at, las
 use Rattle.aq_run.specs.Effects.{effects}
 use Rattle.aq_run.specs.Steps.{effects_of, scene_of, step}
 use Rattle.aq_run.specs.Replies.{joined}
-use Rattle.aq_run.specs.Runs.{Schedule, Can_run_from, Is_schedule}
+use Rattle.aq_run.specs.Runs.{Schedule, CanRunFrom, IsSchedule}
 use Rattle.aq_run.specs.Texts.{line, name_at, reply_text, given_text, replies_text, row_text, table_text, table_rows, tables_text, runs_of, run_item, text_of}
-use Rattle.aq_run.specs.Told.{is_lines, Tells_schedule, are_named, Can_be_told, Schedule_is_told}
+use Rattle.aq_run.specs.Told.{is_lines, TellsSchedule, are_named, CanBeTold, ScheduleIsTold}
 use Rattle.aq_run.proofs.Told_bytes.{lines-line, lines-append, lines-flat_map, one_last_line}
-use Rattle.aq_run.proofs.Told_runs.{runs_of-injective, Runs_fit-runs_of, items-injective, items_free}
+use Rattle.aq_run.proofs.Told_runs.{runs_of-injective, RunsFit-runs_of, items-injective, items_free}
 
 -- ---- two schedules that one line tells
 
-pub schedule_is_told : Schedule_is_told
+pub schedule_is_told : ScheduleIsTold
 schedule_is_told names are differ text v w p q tells_v tells_w =
     let same : codes "schedule" ++ flat_map (run_item names) (runs_of v) ≡ codes "schedule" ++ flat_map (run_item names) (runs_of w) =
     one_last_line text (codes "schedule" ++ flat_map (run_item names) (runs_of v)) (codes "schedule" ++ flat_map (run_item names) (runs_of w)) tells_v tells_w in
     runs_of-injective v w (items-injective names (length v) (length w) (runs_of v) (runs_of w) are differ p.short q.short
-    (Runs_fit-runs_of names v p.named) (Runs_fit-runs_of names w q.named)
+    (RunsFit-runs_of names v p.named) (RunsFit-runs_of names w q.named)
     (append_cancel_left (codes "schedule") (flat_map (run_item names) (runs_of v)) (flat_map (run_item names) (runs_of w)) same))
 
 -- ---- the text of a run tells its schedule
@@ -50,7 +50,7 @@ replies-lines names replies =
     lines-flat_map (given_text names) replies (λ given. lines-line (name_at names given.session ++ codes "." ++ decimal given.statement ++ codes ": " ++ reply_text given.line))
 
 -- for any replies and any last database
-pub told : (program : Program) (st : State) (w : Schedule) → list_all is_name program.names ≡ true → Tells_schedule program.names (text_of program st w) w
+pub told : (program : Program) (st : State) (w : Schedule) → list_all is_name program.names ≡ true → TellsSchedule program.names (text_of program st w) w
 told program st w are = record {
   front = replies_text program.names st.world.replies ++ tables_text 0 program.catalog.tables (last_database st.world);
   begins = lines-append (replies_text program.names st.world.replies) (tables_text 0 program.catalog.tables (last_database st.world))
@@ -69,26 +69,26 @@ length-sessions : (program : Program) (st : State) (s : ℕ) → length (step pr
 unfolding step
 length-sessions program st s = length-set st.sessions s (effects program.catalog s (effects_of program st s) (scene_of st s)).me
 
-pub Can_run_from-below : (program : Program) (st : State) (w : Schedule) → Can_run_from program st w → list_all (λ s. nat_lt s (length st.sessions)) w ≡ true
-unfolding Can_run_from
-Can_run_from-below program st [] can = refl
-Can_run_from-below program st (s ∷ w) can =
+pub CanRunFrom-below : (program : Program) (st : State) (w : Schedule) → CanRunFrom program st w → list_all (λ s. nat_lt s (length st.sessions)) w ≡ true
+unfolding CanRunFrom
+CanRunFrom-below program st [] can = refl
+CanRunFrom-below program st (s ∷ w) can =
     and_from (nat_lt s (length st.sessions)) (are_below (length st.sessions) w)
     (and_parts (nat_lt s (length st.sessions)) (not (session_at st s).ended) can.0).0
-    (subst (λ n. are_below n w ≡ true) (length-sessions program st s) (Can_run_from-below program (step program st s) w can.1))
+    (subst (λ n. are_below n w ≡ true) (length-sessions program st s) (CanRunFrom-below program (step program st s) w can.1))
 
 -- the sessions of a schedule that can be run are those of the program
-pub Is_schedule-below : (program : Program) (w : Schedule) → Is_schedule program w → list_all (λ s. nat_lt s (length program.sessions)) w ≡ true
-Is_schedule-below program w can =
-    subst (λ n. are_below n w ≡ true) (length-map program.sessions (λ _. at_start)) (Can_run_from-below program (opening program) w can)
+pub IsSchedule-below : (program : Program) (w : Schedule) → IsSchedule program w → list_all (λ s. nat_lt s (length program.sessions)) w ≡ true
+IsSchedule-below program w can =
+    subst (λ n. are_below n w ≡ true) (length-map program.sessions (λ _. at_start)) (CanRunFrom-below program (opening program) w can)
 
 -- they have names
-pub Is_schedule-named : (script : Script) (w : Schedule) → Is_schedule (program_of script) w → are_named (program_of script).names w ≡ true
-Is_schedule-named script w can =
+pub IsSchedule-named : (script : Script) (w : Schedule) → IsSchedule (program_of script) w → are_named (program_of script).names w ≡ true
+IsSchedule-named script w can =
     subst (λ n. are_below n w ≡ true)
     (length-map script.sessions (bound_statements (catalog_of script)) ∙ sym (length-map script.sessions (λ (session : SessionText). session.name)))
-    (Is_schedule-below (program_of script) w can)
+    (IsSchedule-below (program_of script) w can)
 
 -- one that isn't too long can be told
-pub Is_schedule-told : (script : Script) (w : Schedule) → Is_schedule (program_of script) w → length w < 10 ^ 64 → Can_be_told (program_of script).names w
-Is_schedule-told script w can short = record { named = Is_schedule-named script w can; short = short }
+pub IsSchedule-told : (script : Script) (w : Schedule) → IsSchedule (program_of script) w → length w < 10 ^ 64 → CanBeTold (program_of script).names w
+IsSchedule-told script w can short = record { named = IsSchedule-named script w can; short = short }

@@ -8,7 +8,7 @@ use Rattle.std.proofs.lemmas.Bool.Decides.{nat_tests}
 use Rattle.std.proofs.lemmas.List.Folds.{list_all-append}
 use Rattle.aq_base.specs.Names.{Text, is_between, begins_word, goes_on_in_word, is_word, is_short, is_reserved, is_name}
 use Rattle.aq_run.specs.Texts.{line}
-use Rattle.aq_run.specs.Told.{is_free_of, is_lines, Ends_with_line}
+use Rattle.aq_run.specs.Told.{is_free_of, is_lines, EndsWithLine}
 
 -- ---- texts that have no such byte
 
@@ -100,7 +100,7 @@ last_line (c ∷ f) [] a b if_ ig fa fb e = absurd (no_line_before b f a c fb if
 last_line (c ∷ f) (d ∷ g) a b if_ ig fa fb e = last_line f g a b (lines-rest c f if_) (lines-rest d g ig) fa fb cc
 
 -- a text ends with one line
-pub one_last_line : (text a b : Text) → Ends_with_line text a → Ends_with_line text b → a ≡ b
+pub one_last_line : (text a b : Text) → EndsWithLine text a → EndsWithLine text b → a ≡ b
 one_last_line text a b p q = last_line p.front q.front a b p.begins q.begins p.one_line q.one_line (sym p.whole ∙ q.whole)
 
 -- ---- lines, one behind the other

@@ -35,25 +35,25 @@ runs_of-injective v w e = sym (steps_of-runs_of v) ∙ ap (λ (r : List (ℕ × 
 -- ---- names and lengths of runs
 
 -- each run is of a session below n, and has k steps at the most
-abbrev pub Runs_fit : ℕ → ℕ → List (ℕ × ℕ) → Type 0
-Runs_fit n k [] = Unit {0}
-Runs_fit n k (first ∷ others) = (first.0 < n) × (first.1 ≤ k) × Runs_fit n k others
+abbrev pub RunsFit : ℕ → ℕ → List (ℕ × ℕ) → Type 0
+RunsFit n k [] = Unit {0}
+RunsFit n k (first ∷ others) = (first.0 < n) × (first.1 ≤ k) × RunsFit n k others
 
-Runs_fit-more : (n k : ℕ) (runs : List (ℕ × ℕ)) → Runs_fit n k runs → Runs_fit n (suc k) runs
-Runs_fit-more n k [] fit = tt
-Runs_fit-more n k (first ∷ others) fit = (fit.0, omega arith, Runs_fit-more n k others fit.2)
+RunsFit-more : (n k : ℕ) (runs : List (ℕ × ℕ)) → RunsFit n k runs → RunsFit n (suc k) runs
+RunsFit-more n k [] fit = tt
+RunsFit-more n k (first ∷ others) fit = (fit.0, omega arith, RunsFit-more n k others fit.2)
 
-Runs_fit-with_step : (n k s : ℕ) (runs : List (ℕ × ℕ)) → s < n → Runs_fit n k runs → Runs_fit n (suc k) (with_step s runs)
-Runs_fit-with_step n k s [] below fit = (below, omega arith, tt)
-Runs_fit-with_step n k s (first ∷ others) below fit =
-    cond_both (eqb s first.0) ((first.0, first.1 + 1) ∷ others) ((s, 1) ∷ first ∷ others) (Runs_fit n (suc k))
-    (λ _. (fit.0, omega arith, Runs_fit-more n k others fit.2)) (λ _. (below, omega arith, Runs_fit-more n k (first ∷ others) fit))
+RunsFit-with_step : (n k s : ℕ) (runs : List (ℕ × ℕ)) → s < n → RunsFit n k runs → RunsFit n (suc k) (with_step s runs)
+RunsFit-with_step n k s [] below fit = (below, omega arith, tt)
+RunsFit-with_step n k s (first ∷ others) below fit =
+    cond_both (eqb s first.0) ((first.0, first.1 + 1) ∷ others) ((s, 1) ∷ first ∷ others) (RunsFit n (suc k))
+    (λ _. (fit.0, omega arith, RunsFit-more n k others fit.2)) (λ _. (below, omega arith, RunsFit-more n k (first ∷ others) fit))
 
-pub Runs_fit-runs_of : (names : List Text) (w : Schedule) → are_named names w ≡ true → Runs_fit (length names) (length w) (runs_of w)
-Runs_fit-runs_of names [] named = tt
-Runs_fit-runs_of names (s ∷ w) named =
+pub RunsFit-runs_of : (names : List Text) (w : Schedule) → are_named names w ≡ true → RunsFit (length names) (length w) (runs_of w)
+RunsFit-runs_of names [] named = tt
+RunsFit-runs_of names (s ∷ w) named =
     let parts = and_parts (ltb s (length names)) (are_named names w) named in
-    Runs_fit-with_step (length names) (length w) s (runs_of w) (ltb-true s (length names) parts.0) (Runs_fit-runs_of names w parts.1)
+    RunsFit-with_step (length names) (length w) s (runs_of w) (ltb-true s (length names) parts.0) (RunsFit-runs_of names w parts.1)
 
 -- ---- a name is at one place
 
@@ -99,7 +99,7 @@ items_behind names (item ∷ items) =
     ∙ append_assoc (codes " " ++ name_at names item.0) (codes "*") (decimal item.1 ++ 32 ∷ behind names items)
 
 behind-injective : (names : List Text) (k l : ℕ) (a b : List (ℕ × ℕ)) → list_all is_name names ≡ true → all_differ names ≡ true → k < 10 ^ 64 → l < 10 ^ 64
-    → Runs_fit (length names) k a → Runs_fit (length names) l b → behind names a ≡ behind names b → a ≡ b
+    → RunsFit (length names) k a → RunsFit (length names) l b → behind names a ≡ behind names b → a ≡ b
 unfolding behind
 behind-injective names k l [] [] are differ p q f g e = refl
 behind-injective names k l [] (item ∷ b) are differ p q f g e =
@@ -117,7 +117,7 @@ behind-injective names k l (x ∷ a) (y ∷ b) are differ p q f g e =
 
 -- the items of runs tell the runs
 pub items-injective : (names : List Text) (k l : ℕ) (a b : List (ℕ × ℕ)) → list_all is_name names ≡ true → all_differ names ≡ true → k < 10 ^ 64 → l < 10 ^ 64
-    → Runs_fit (length names) k a → Runs_fit (length names) l b → flat_map (run_item names) a ≡ flat_map (run_item names) b → a ≡ b
+    → RunsFit (length names) k a → RunsFit (length names) l b → flat_map (run_item names) a ≡ flat_map (run_item names) b → a ≡ b
 items-injective names k l a b are differ p q f g e =
     let same : 32 ∷ behind names a ≡ 32 ∷ behind names b = sym (items_behind names a) ∙ ap (λ (t : Text). t ++ 32 ∷ []) e ∙ items_behind names b in
     behind-injective names k l a b are differ p q f g cc

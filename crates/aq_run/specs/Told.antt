@@ -16,27 +16,27 @@ is_lines (byte ∷ []) = byte == 10
 is_lines (byte ∷ next ∷ text) = is_lines (next ∷ text)
 
 -- the text ends with a line, which begins at the text's front or after an LF
-pub record Ends_with_line (text last : Text) : Type 0 where
+pub record EndsWithLine (text last : Text) : Type 0 where
   pub front : Text
   pub begins : is_lines front ≡ true
   pub whole : text ≡ front ++ line last
   pub one_line : is_free_of 10 last ≡ true
 
 -- the last line of the text is `schedule` and the longest runs of the schedule's steps
-abbrev pub Tells_schedule : List Text → Text → Schedule → Type 0
-Tells_schedule names text schedule = Ends_with_line text (codes "schedule" ++ flat_map (run_item names) (runs_of schedule))
+abbrev pub TellsSchedule : List Text → Text → Schedule → Type 0
+TellsSchedule names text schedule = EndsWithLine text (codes "schedule" ++ flat_map (run_item names) (runs_of schedule))
 
 -- each session of the schedule has a name
 abbrev pub are_named : List Text → Schedule → Bool
 are_named names schedule = list_all (λ s. nat_lt s (length names)) schedule
 
 -- The sessions have names, and no run is too long for its number of steps to be written in full: `decimal` has room for 64 digits.
-pub record Can_be_told (names : List Text) (schedule : Schedule) : Type 0 where
+pub record CanBeTold (names : List Text) (schedule : Schedule) : Type 0 where
   pub named : are_named names schedule ≡ true
   pub short : length schedule < 10 ^ 64
 
 -- With names that differ, the last line of a text tells no two schedules.
-abbrev pub Schedule_is_told : Type 0
-Schedule_is_told =
+abbrev pub ScheduleIsTold : Type 0
+ScheduleIsTold =
     (names : List Text) → list_all is_name names ≡ true → all_differ names ≡ true → (text : Text) (v w : Schedule) →
-    Can_be_told names v → Can_be_told names w → Tells_schedule names text v → Tells_schedule names text w → v ≡ w
+    CanBeTold names v → CanBeTold names w → TellsSchedule names text v → TellsSchedule names text w → v ≡ w

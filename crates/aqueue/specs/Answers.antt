@@ -8,10 +8,10 @@ use Rattle.aq_base.specs.Setup.{Program, program_of}
 use Rattle.aq_base.specs.declared.fault.SqlFault.{SqlFault}
 use Rattle.aq_base.specs.declared.script.Script.{Script}
 use Rattle.aq_parse.specs.Reading.{Reads, HasNoReading, not_built}
-use Rattle.aq_run.specs.Runs.{Schedule, run, Is_schedule, Is_complete, Is_default_schedule}
+use Rattle.aq_run.specs.Runs.{Schedule, run, IsSchedule, IsComplete, IsDefaultSchedule}
 use Rattle.aq_run.specs.Texts.{line, text}
-use Rattle.aq_run.specs.Told.{Tells_schedule}
-use Rattle.aq_laws.specs.Committed.{Databases_stand}
+use Rattle.aq_run.specs.Told.{TellsSchedule}
+use Rattle.aq_laws.specs.Committed.{DatabasesStand}
 
 -- ---- the words, and the lines that are no text of a run
 
@@ -41,11 +41,11 @@ refusal_line number fault = line (codes "aqueue: line " ++ decimal number ++ cod
 -- sessions have ended; and every database of the run satisfies every foreign key and every unique key.
 pub record IsTextOf (script : Script) (output : Text) : Type 0 where
   pub schedule : Schedule
-  pub by_default : Is_default_schedule (program_of script) schedule
+  pub by_default : IsDefaultSchedule (program_of script) schedule
   pub printed : output ≡ text (program_of script) schedule
-  pub told : Tells_schedule (program_of script).names output schedule
-  pub complete : Is_complete (program_of script) schedule
-  pub stand : Databases_stand (program_of script) (run (program_of script) schedule)
+  pub told : TellsSchedule (program_of script).names output schedule
+  pub complete : IsComplete (program_of script) schedule
+  pub stand : DatabasesStand (program_of script) (run (program_of script) schedule)
 
 -- the output is the text of a script that the bytes are
 pub record IsReplay (bytes : List ℕ) (output : Text) : Type 0 where
