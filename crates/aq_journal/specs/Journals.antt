@@ -3,7 +3,7 @@ use Rattle.std.specs.Prelude.{◌≡◌, ◌++◌}
 use Rattle.aq_base.specs.Setup.{program_of}
 use Rattle.aq_base.specs.declared.script.Script.{Script}
 use Rattle.aq_run.specs.States.{State}
-use Rattle.aq_run.specs.Runs.{Schedule, run, IsSchedule, IsComplete, GoesByDefault}
+use Rattle.aq_run.specs.Runs.{Schedule, run, run_from, IsSchedule, IsComplete, GoesByDefault}
 
 -- a script, the state of its run, and the sessions that stepped
 pub record Journal : Type 0 where
@@ -22,6 +22,7 @@ pub record GoesOn (before after : Journal) : Type 0 where
   pub later : Schedule
   pub schedule : after.schedule ≡ before.schedule ++ later
   pub by_default : GoesByDefault (program_of before.script) before.state later
+  pub ran : after.state ≡ run_from (program_of before.script) before.state later
 
 -- and in the end all sessions have ended
 pub record Finishes (before after : Journal) : Type 0 where

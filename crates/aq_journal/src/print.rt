@@ -6,7 +6,7 @@ ghost use Rattle.std.specs.Fmt.{decimal, signed_decimal};
 ghost use Rattle.aq_run.specs.Replies.{joined};
 ghost use Rattle.aq_run.specs.Texts.{line, doubled_quote, value_text, row_text, table_text, reply_text, run_item};
 
-use aq_base::{Column, NoMemory, ReplyLine, Row, Table, TextVal, Value};
+use aq_base::{Column, NoMemory, ReplyLine, Row, Table, Value};
 use itoa::Buffer;
 
 fn push_number(out: &mut Vec<u8>, n: u64) -> Result<(), NoMemory>
@@ -163,10 +163,10 @@ pub fn push_reply(out: &mut Vec<u8>, reply: &ReplyLine) -> Result<(), NoMemory>
 }
 
 /// What stands before a reply: the session's name and the statement's number.
-pub fn push_place(out: &mut Vec<u8>, name: &TextVal, statement: u32) -> Result<(), NoMemory>
+pub fn push_place(out: &mut Vec<u8>, name: &str, statement: u32) -> Result<(), NoMemory>
     ensures { OnOk result (out.new.items ≡ out.old.items ++ name.now ++ codes "." ++ decimal statement ++ codes ": ") }
 {
-    out.extend_from_slice(name.bytes())?;
+    out.extend_from_slice(name.as_bytes())?;
     out.push(b'.')?;
     push_number(out, u64::from(statement))?;
     out.extend_from_slice(b": ")

@@ -6,6 +6,7 @@ ghost use Rattle.aq_run.specs.Texts.{name_at, run_item, runs_of, schedule_line};
 
 use crate::print::push_run;
 use aq_base::{NoMemory, SessionText};
+use aq_xids::SessNo;
 use std::alloc::Global;
 use std::marker::Model;
 
@@ -37,12 +38,27 @@ impl Runs {
     }
 
     /// One step more. The error is want of memory.
-    pub fn push(&mut self, session: u8) -> Result<(), NoMemory>
-        ensures ok { OnOk result (self.new ≡ self.old ++ session ∷ []) }
+    pub fn push(&mut self, s: SessNo) -> Result<(), NoMemory>
+        ensures ok { OnOk result (self.new ≡ self.old ++ s.0 ∷ []) }
         ensures err { OnErr result (self.new ≡ self.old) }
     {
-        self.steps.push(session)?;
+        self.steps.push(s.0)?;
         Ok(())
+    }
+
+    /// Takes the last step back.
+    pub fn pop(&mut self)
+        requires { 0 < length self.old }
+        ensures { (last : ℕ) × (self.old ≡ self.new ++ last ∷ []) }
+    {
+        let _last = self.steps.pop();
+    }
+
+    /// How many steps there are.
+    pub fn len(&self) -> u64
+        ensures { result ≡ length self.now }
+    {
+        self.steps.len() as u64
     }
 
     /// The sessions' numbers.

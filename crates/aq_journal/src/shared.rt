@@ -1,6 +1,6 @@
 //! A machine with the schedule that it has run.
 
-ghost use Rattle.std.specs.Prelude.{◌≡◌, [], ◌∷◌, ◌++◌, true, IfOk, OnOk, OnErr, MatchOption};
+ghost use Rattle.std.specs.Prelude.{◌≡◌, ℕ, [], ◌∷◌, ◌++◌, true, false, IfOk, OnOk, OnErr, MatchOption};
 ghost use Rattle.aq_base.specs.Setup.{program_of};
 ghost use Rattle.aq_run.specs.States.{opening};
 ghost use Rattle.aq_run.specs.Steps.{step, is_enabled};
@@ -11,7 +11,8 @@ ghost use Rattle.aq_journal.specs.Journals.{Journal, IsJournal, Finishes, GoesOn
 use crate::schedule::Runs;
 use crate::text::text;
 use aq_base::{List, NoMemory};
-use aq_machine::{Machine, SessNo};
+use aq_machine::Machine;
+use aq_xids::SessNo;
 use std::alloc::Global;
 use std::marker::Model;
 
@@ -31,6 +32,17 @@ impl Model for Shared {
     ghost view = { λ s. record { script = s.machine.script; state = s.machine.state; schedule = s.schedule } };
 
     ghost invariant = { λ s. IsJournal s.machine.script s.machine.state s.schedule };
+}
+
+fn least_enabled(machine: &Machine) -> Option<SessNo>
+    ensures { MatchOption result ((s : ℕ) → is_enabled machine.now.state s ≡ false) (λ s. IsLeastEnabled machine.now.state s.0) }
+{
+    for s in 0..machine.sessions() {
+        if machine.enabled(SessNo(s)) {
+            return Some(SessNo(s));
+        }
+    }
+    None
 }
 
 impl Shared {
@@ -65,7 +77,7 @@ impl Shared {
         ensures ok { OnOk result (Finishes self.old self.new) }
         ensures err { OnErr result (GoesOn self.old self.new) }
     {
-        'steps: while let Some(s) = self.least_enabled() {
+        'steps: while let Some(s) = least_enabled(&self.machine) {
             self.advance(s)?;
         }
         Ok(())
@@ -93,11 +105,5 @@ impl Shared {
         ensures { IfOk result (λ output. output ≡ run_text (program_of self.now.script) self.now.schedule) }
     {
         text(self.alloc, &self.machine, self.schedule.as_slice())
-    }
-
-    fn least_enabled(&self) -> Option<SessNo>
-        ensures { MatchOption result ((s : ℕ) → is_enabled self.now.state s ≡ false) (λ s. IsLeastEnabled self.now.state s.0) }
-    {
-        least_enabled(&self.machine)
     }
 }

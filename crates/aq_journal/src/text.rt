@@ -3,23 +3,29 @@
 ghost use Rattle.std.specs.Prelude.{◌≡◌, ◌++◌, map, IfOk, OnOk};
 ghost use Rattle.aq_base.specs.Setup.{program_of};
 ghost use Rattle.aq_run.specs.States.{last_database};
-ghost use Rattle.aq_run.specs.Texts.{given_text, replies_text, tables_text, text_of};
-ghost use Rattle.aq_machine.specs.Shown.{given_shown};
+ghost use Rattle.aq_run.specs.Texts.{name_at, given_text, replies_text, tables_text, text_of};
+ghost use Rattle.aq_machine.specs.Givens.{given_shown};
 
 use crate::print::{push_place, push_reply, push_table};
 use crate::schedule::push_schedule;
 use aq_base::{List, NoMemory, SessionText, TabNo, Table};
 use aq_machine::{Given, Machine};
+use aq_xids::SessNo;
 use std::alloc::Global;
+
+fn name_of(sessions: &[SessionText], s: SessNo) -> &str
+    ensures { result.now ≡ name_at (map (λ session. session.name) sessions.now) s.0 }
+{
+    match sessions.get(usize::from(s.0)) {
+        None => "",
+        Some(session) => session.name.as_str(),
+    }
+}
 
 fn push_given(out: &mut Vec<u8>, sessions: &[SessionText], given: &Given) -> Result<(), NoMemory>
     ensures { OnOk result (out.new.items ≡ out.old.items ++ given_text (map (λ s. s.name) sessions.now) (given_shown given.now)) }
 {
-    let name = match sessions.get(usize::from(given.session.0)) {
-        None => "",
-        Some(session) => session.name.as_str(),
-    };
-    push_place(out, name, given.statement)?;
+    push_place(out, name_of(sessions, given.session), given.statement)?;
     push_reply(out, &given.line)?;
     Ok(out.push(b'\n')?)
 }

@@ -1,16 +1,14 @@
 -- Lists of tokens that begin with some tokens, on whatever lines.
-use Rattle.std.proofs.Common.{◌≡◌, ℕ, zero, suc, ◌+◌, ◌≤◌, ◌<◌, Bool, true, false, cond, not, List, [], ◌∷◌, ◌++◌, length, Option, Some, None, refl, sym, ap, ◌∙◌, subst, arith, inl, inr}
-use Rattle.std.specs.List.{flat_map}
-use Rattle.std.proofs.lemmas.Bool.{eqb-true, eq-eqb, cond-true, cond-false}
+use Rattle.std.proofs.Common.{◌≡◌, ℕ, ◌+◌, Bool, true, List, [], ◌∷◌, ◌++◌, length, Some, None, refl, sym, ap, subst, arith, inl, inr}
+use Rattle.std.proofs.lemmas.Bool.{eqb-true, eq-eqb, cond-true}
 use Rattle.std.proofs.lemmas.Slice.Eq.{bytes_eq-Decides}
 use Rattle.aq_base.specs.Names.{Text, same_text}
 use Rattle.aq_parse.specs.declared.token.Token.{Token}
 use Rattle.aq_parse.specs.declared.token.Token.TheVariants.{Word, Integer, Symbol, Setup, Session}
 use Rattle.aq_parse.specs.declared.token.Lexed.{Lexed}
-use Rattle.aq_parse.specs.Steps.{◌>>=◌}
 use Rattle.aq_parse.specs.Grammar.{BeginsWith}
 use Rattle.aq_parse.specs.Parsing.{is_keyword, is_mark, is_setup, is_session, begins_with, behind_one, name_from, name_at}
-use Rattle.aq_parse.proofs.Tests.{chosen, some_is, none_is_not}
+use Rattle.aq_parse.proofs.Facts.{chosen, some_is, none_is_not}
 
 pub begins_then : (a b : List Token) (tokens middle rest : List Lexed) → BeginsWith a tokens middle → BeginsWith b middle rest → BeginsWith (a ++ b) tokens rest
 begins_then [] b tokens middle rest h k = subst (λ (x : List Lexed). BeginsWith b x rest) (sym h) k

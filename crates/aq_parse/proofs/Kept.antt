@@ -1,10 +1,9 @@
 -- The names and limits of a script, by the statements before a place and by the catalog that these make.
-use Rattle.std.proofs.Common.{◌≡◌, ℕ, zero, suc, ◌+◌, ◌-◌, ◌≤◌, ◌<◌, Bool, true, false, cond, not, ◌&&◌, ◌||◌, eqb, List, [], ◌∷◌, ◌++◌, length, map, take, drop, Option, Some, None, refl, sym, ap, ◌∙◌, subst, arith, inl, inr, add-one, append_assoc}
-use Rattle.std.specs.List.{list_all, list_any, slice_get}
-use Rattle.aq_base.specs.declared.script.ColumnItem.{ColumnItem}
+use Rattle.std.proofs.Common.{◌≡◌, ℕ, zero, suc, ◌+◌, ◌≤◌, Bool, true, ◌&&◌, ◌||◌, List, [], ◌∷◌, ◌++◌, length, map, take, drop, Some, refl, ap, arith, add-one}
+use Rattle.std.specs.List.{list_any, slice_get}
 use Rattle.aq_base.specs.declared.script.Placed.{Placed}
 use Rattle.aq_parse.specs.Conditions.{definition_kept, setup_kept}
-use Rattle.aq_parse.proofs.Tests.{some_is, none_is_not}
+use Rattle.aq_parse.proofs.Facts.{some_is, none_is_not}
 
 pub any_mapped : {X Y : Type 0} (test : Y → Bool) (f : X → Y) (xs : List X) → list_any test (map f xs) ≡ list_any (λ x. test (f x)) xs
 any_mapped test f [] = refl

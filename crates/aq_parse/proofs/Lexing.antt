@@ -1,21 +1,21 @@
 -- What is found from left to right is the one list of tokens that the bytes are.
-use Rattle.std.proofs.Common.{◌≡◌, ℕ, zero, suc, ◌+◌, ◌-◌, ◌*◌, ◌≤◌, ◌<◌, Bool, true, false, cond, not, ◌&&◌, List, [], ◌∷◌, ◌++◌, length, map, take, drop, min, codes, eqb, nat_eq, nat_le, Option, Some, None, refl, sym, ap, ◌∙◌, subst, append_assoc, arith, inl, inr, length-drop, IsTrue}
+use Rattle.std.proofs.Common.{◌≡◌, ℕ, zero, suc, ◌+◌, ◌-◌, ◌*◌, ◌≤◌, Bool, true, false, cond, List, [], ◌∷◌, ◌++◌, length, map, drop, min, codes, eqb, nat_eq, nat_le, Option, Some, None, refl, sym, ap, ◌∙◌, subst, append_assoc, arith, inl, inr, length-drop}
 use Rattle.std.specs.List.{fold, list_all, starts_with}
-use Rattle.std.proofs.lemmas.Bool.{and_parts, and_from, leb-true, le-leb, not_from_false, not-true, cases_Bool, cond-true, cond-false, ne_eqb}
+use Rattle.std.proofs.lemmas.Bool.{and_parts, and_from, leb-true, le-leb, not_from_false, not-true, cond-true, cond-false, ne_eqb}
 use Rattle.std.proofs.lemmas.Bool.Decides.{Decides-eqb}
 use Rattle.std.proofs.lemmas.List.Folds.{list_all-map}
 use Rattle.std.proofs.lemmas.Slice.Eq.{starts_is}
 use Rattle.std.proofs.lemmas.List.{append-nil}
-use Rattle.aq_base.specs.Names.{Text, begins_word, goes_on_in_word, is_word}
+use Rattle.aq_base.specs.Names.{begins_word, goes_on_in_word, is_word}
 use Rattle.aq_parse.specs.declared.token.Token.{Token}
 use Rattle.aq_parse.specs.declared.token.Token.TheVariants.{Word, Integer, Symbol, Setup, Session}
 use Rattle.aq_parse.specs.declared.token.Lexed.{Lexed}
 use Rattle.aq_parse.specs.declared.fault.ReadFault.{ReadFault}
 use Rattle.aq_parse.specs.declared.fault.ReadFault.TheVariants.{NoMemory, NotBuilt}
 use Rattle.aq_parse.specs.Steps.{◌>>=◌, Fails}
-use Rattle.aq_parse.specs.Tokens.{lower, is_blank, is_symbol, is_digit, is_in_word, begins_otherwise, are_digits, number_of, SpellsToken, Place, beginning, behind_blank, behind_token, Lexes, Ends, Blank, Next}
+use Rattle.aq_parse.specs.Tokens.{lower, is_blank, is_symbol, is_digit, is_in_word, begins_otherwise, are_digits, number_of, SpellsToken, Place, behind_blank, behind_token, Lexes, Ends, Blank, Next}
 use Rattle.aq_parse.specs.Lexing.{front, behind, word_at, integer_at, directive_at, token_at, tokens_from}
-use Rattle.aq_parse.proofs.Tests.{bind_some, chosen, some_is, none_is_not, word_not_blank, digit_not_blank, symbol_not_blank, symbol_begins_no_word, digit_begins_no_word, begins_in_word}
+use Rattle.aq_parse.proofs.Facts.{bind_some, chosen, some_is, none_is_not, word_not_blank, digit_not_blank, symbol_not_blank, symbol_begins_no_word, digit_begins_no_word, begins_in_word}
 
 -- ---- bytes that pass a test
 

@@ -1,4 +1,4 @@
-pub mod Tests
+pub mod Facts
 pub mod Lexing
 pub mod Fronts
 pub mod Listing

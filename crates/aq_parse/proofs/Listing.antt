@@ -1,18 +1,13 @@
 -- Elements one after the other: what is read is spelled so, what is spelled so is read, and how a loop goes on.
-use Rattle.std.proofs.Common.{◌≡◌, ℕ, zero, suc, ◌+◌, ◌≤◌, ◌<◌, Bool, true, false, cond, not, ◌&&◌, List, [], ◌∷◌, ◌++◌, length, Option, Some, None, refl, sym, ap, ◌∙◌, subst, append_assoc, arith, inl, inr}
-use Rattle.std.specs.List.{flat_map, list_all}
-use Rattle.std.proofs.lemmas.Bool.{cond-true, cond-false, and_from, and_parts, both_ways}
+use Rattle.std.proofs.Common.{◌≡◌, ℕ, zero, suc, ◌≤◌, ◌<◌, Bool, true, false, List, [], ◌∷◌, ◌++◌, length, Option, Some, None, refl, sym, ap, ◌∙◌, subst, append_assoc, arith, inl, inr}
+use Rattle.std.proofs.lemmas.Bool.{cond-true, cond-false}
 use Rattle.std.proofs.lemmas.List.{append-nil}
 use Rattle.aq_parse.specs.declared.fault.ReadFault.{ReadFault}
 use Rattle.aq_parse.specs.declared.fault.ReadFault.TheVariants.{NoMemory, NotBuilt}
-use Rattle.aq_parse.specs.declared.token.Token.{Token}
-use Rattle.aq_parse.specs.declared.token.Token.TheVariants.{Word, Integer, Symbol, Setup, Session}
 use Rattle.aq_parse.specs.declared.token.Lexed.{Lexed}
 use Rattle.aq_parse.specs.Steps.{◌>>=◌, Fails}
-use Rattle.aq_parse.specs.Grammar.{BeginsWith, with_commas, are_some, comma}
-use Rattle.aq_parse.specs.Parsing.{begins_with, behind_one, is_mark, repeated_at, next_at, listed_at}
-use Rattle.aq_parse.proofs.Tests.{bind_some, chosen, some_is, none_is_not}
-use Rattle.aq_parse.proofs.Fronts.{begins_then, begins_split, begins_length, IsTestOf, mark_test, one_takes, one_again, first_is}
+use Rattle.aq_parse.specs.Parsing.{repeated_at}
+use Rattle.aq_parse.proofs.Facts.{bind_some, chosen, some_is}
 
 module _ {A : Type 0} (begins : List Lexed → Bool) (element : List Lexed → Option (A × List Lexed)) where
   -- the elements so far, and those that are still read

@@ -1,5 +1,5 @@
 -- Readers of one element, and of elements with commas between them.
-use Rattle.std.proofs.Common.{◌≡◌, ℕ, zero, suc, ◌+◌, ◌≤◌, ◌<◌, Bool, true, false, cond, not, ◌&&◌, List, [], ◌∷◌, ◌++◌, length, Option, Some, None, refl, sym, ap, ◌∙◌, subst, arith, inl, inr}
+use Rattle.std.proofs.Common.{◌≡◌, ◌≤◌, Bool, true, false, List, [], ◌∷◌, ◌++◌, length, Option, Some, None, refl, sym, ap, ◌∙◌, subst, arith}
 use Rattle.std.specs.List.{flat_map, list_all}
 use Rattle.std.proofs.lemmas.Bool.{and_from, and_parts}
 use Rattle.aq_parse.specs.declared.fault.ReadFault.{ReadFault}
@@ -10,7 +10,7 @@ use Rattle.aq_parse.specs.declared.token.Lexed.{Lexed}
 use Rattle.aq_parse.specs.Steps.{◌>>=◌, Fails}
 use Rattle.aq_parse.specs.Grammar.{BeginsWith, with_commas, are_some, comma}
 use Rattle.aq_parse.specs.Parsing.{begins_with, behind_one, is_mark, repeated_at, next_at, listed_at}
-use Rattle.aq_parse.proofs.Tests.{bind_some, some_is}
+use Rattle.aq_parse.proofs.Facts.{bind_some, some_is}
 use Rattle.aq_parse.proofs.Fronts.{begins_then, begins_split, begins_length, mark_test, one_takes, one_again, first_is}
 use Rattle.aq_parse.proofs.Listing.{Shortens, Stands, SpellsEach, IsReadAgain, each_takes, each_again}
 
@@ -98,7 +98,8 @@ module _ {A : Type 0} (spelled : A → List Token) (form : A → Bool) (element 
       let b = bind_some (repeated_at (begins_with (is_mark 44)) (next_at element) (length a.0.1) a.0.1) (λ others. Some (a.0.0 ∷ others.0, others.1)) found a.2 in
       let first = reader.takes tokens a.0 a.1 in
       let others = joined b.0.0 a.0.1 b.0.1 (each_takes (begins_with (is_mark 44)) (next_at element) Next next_takes (length a.0.1) a.0.1 b.0 b.1) in
-      subst (λ (f : List A × List Lexed). BeginsWith (with_commas spelled f.0) tokens f.1 × (are_some form f.0 ≡ true)) (some_is (a.0.0 ∷ b.0.0, b.0.1) found b.2)
+      let made : List A × List Lexed = (a.0.0 ∷ b.0.0, b.0.1) in
+      subst (λ (f : List A × List Lexed). BeginsWith (with_commas spelled f.0) tokens f.1 × (are_some form f.0 ≡ true)) {x = made} (some_is made found b.2)
       (begins_then (spelled a.0.0) (flat_map (λ x. comma ∷ spelled x) b.0.0) tokens a.0.1 b.0.1 first.0 others.0, and_from (form a.0.0) _ first.1 others.1)
 
   follows_first : (xs : List A) (tokens rest : List Lexed) → BeginsWith (flat_map (λ x. comma ∷ spelled x) xs) tokens rest → begins_with is_symbol_token rest ≡ true → begins_with is_symbol_token tokens ≡ true

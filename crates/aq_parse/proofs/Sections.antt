@@ -1,19 +1,18 @@
 -- Statements, sections and scripts: what is read is spelled so, and what is spelled so is read.
-use Rattle.std.proofs.Common.{◌≡◌, ℕ, zero, suc, ◌+◌, ◌≤◌, ◌<◌, Bool, true, false, cond, not, ◌&&◌, List, [], ◌∷◌, ◌++◌, length, Option, Some, None, codes, refl, sym, ap, ◌∙◌, subst, arith, inl, inr, ◌⊎◌}
+use Rattle.std.proofs.Common.{◌≡◌, ◌≤◌, true, false, List, [], ◌∷◌, ◌++◌, length, Option, Some, None, refl, ap, ◌∙◌, subst, arith, inl, inr}
 use Rattle.std.proofs.lemmas.Bool.{cond-true, cond-false}
-use Rattle.aq_base.specs.Names.{Text}
 use Rattle.aq_base.specs.declared.script.Statement.{Statement}
 use Rattle.aq_base.specs.declared.script.Statement.TheVariants.{CreateTable, Insert}
 use Rattle.aq_base.specs.declared.script.Placed.{Placed}
 use Rattle.aq_base.specs.declared.script.SessionText.{SessionText}
 use Rattle.aq_base.specs.declared.script.Script.{Script}
 use Rattle.aq_parse.specs.declared.token.Token.{Token}
-use Rattle.aq_parse.specs.declared.token.Token.TheVariants.{Word, Integer, Symbol, Setup, Session}
+use Rattle.aq_parse.specs.declared.token.Token.TheVariants.{Word, Setup, Session}
 use Rattle.aq_parse.specs.declared.token.Lexed.{Lexed}
 use Rattle.aq_parse.specs.Steps.{◌>>=◌}
-use Rattle.aq_parse.specs.Grammar.{BeginsWith, semicolon, statement_tokens, has_form, first_line, SpellsPlaced, SpellsStatements, SpellsSetup, SpellsSessions, Spells}
-use Rattle.aq_parse.specs.Parsing.{is_keyword, is_mark, is_setup, is_session, begins_with, behind_one, name_at, repeated_at, statement_at, placed_at, goes_on, statements_at, setup_at, ended, session_at, sessions_at, script_at}
-use Rattle.aq_parse.proofs.Tests.{bind_some, chosen, some_is, none_is_not}
+use Rattle.aq_parse.specs.Grammar.{BeginsWith, semicolon, statement_tokens, first_line, SpellsPlaced, SpellsStatements, SpellsSetup, SpellsSessions, Spells}
+use Rattle.aq_parse.specs.Parsing.{is_mark, is_setup, is_session, begins_with, behind_one, name_at, repeated_at, statement_at, placed_at, goes_on, statements_at, setup_at, ended, session_at, sessions_at, script_at}
+use Rattle.aq_parse.proofs.Facts.{bind_some, chosen, some_is, none_is_not}
 use Rattle.aq_parse.proofs.Fronts.{begins_then, begins_split, begins_length, mark_test, setup_test, session_test, one_takes, one_again, first_is, name_takes, name_again}
 use Rattle.aq_parse.proofs.Readers.{is_symbol_token}
 use Rattle.aq_parse.proofs.Listing.{Shortens, Stands, SpellsEach, IsReadAgain, each_takes, each_again}
@@ -28,7 +27,7 @@ placed_takes tokens found e =
     let tb = statement_takes tokens b.0 b.1 in
     let tc = one_takes (is_mark 59) semicolon b.0.1 c.0 (mark_test 59) c.1 in
     let made : Placed × List Lexed = (record { line = a.0; statement = b.0.0 }, c.0) in
-    subst (λ (f : Placed × List Lexed). SpellsPlaced f.0 tokens f.1) (some_is made found c.2)
+    subst (λ (f : Placed × List Lexed). SpellsPlaced f.0 tokens f.1) {x = made} (some_is made found c.2)
     (record { form = tb.1; spelled = begins_then (statement_tokens b.0.0) (semicolon ∷ []) tokens b.0.1 c.0 tb.0 tc; line = a.1 })
 
 placed_again : (placed : Placed) (tokens rest : List Lexed) → SpellsPlaced placed tokens rest → placed_at tokens ≡ Some (placed, rest)
@@ -85,7 +84,7 @@ setup_takes tokens found e =
           inr (a.0, one_takes is_setup Setup tokens a.0 setup_test a.1, statements_take a.0 found a.2)
       | inr g ↦
           let made : List Placed × List Lexed = ([], tokens) in
-          subst (λ (f : List Placed × List Lexed). SpellsSetup f.0 tokens f.1) (some_is made found g.1) (inl (refl, refl))
+          subst (λ (f : List Placed × List Lexed). SpellsSetup f.0 tokens f.1) {x = made} (some_is made found g.1) (inl (refl, refl))
     ]
 
 ended_is : {A : Type 0} (x y : A) (tokens : List Lexed) → ended x tokens ≡ Some y → (tokens ≡ []) × (x ≡ y)
@@ -152,7 +151,7 @@ script_takes tokens script e =
     let a = bind_some (setup_at tokens) (λ setup. sessions_at setup.1 >>= λ sessions. Some (record { setup = setup.0; sessions = sessions; schedule = None })) script e in
     let b = bind_some (sessions_at a.0.1) (λ sessions. Some (record { setup = a.0.0; sessions = sessions; schedule = None })) script a.2 in
     let made : Script = record { setup = a.0.0; sessions = b.0; schedule = None } in
-    subst (λ (s : Script). Spells tokens s) (some_is made script b.2)
+    subst (λ (s : Script). Spells tokens s) {x = made} (some_is made script b.2)
     (record { sessions = a.0.1; setup_part = setup_takes tokens a.0 a.1; sessions_part = sessions_take a.0.1 b.0 b.1; schedule_part = refl })
 
 pub script_again : (tokens : List Lexed) (script : Script) → Spells tokens script → script_at tokens ≡ Some script

@@ -1,9 +1,9 @@
 -- Statements before a place stand for the catalog that they make, so that both keep the same names and limits.
-use Rattle.std.proofs.Common.{◌≡◌, ℕ, zero, suc, ◌+◌, ◌-◌, ◌≤◌, ◌<◌, Bool, true, false, cond, not, ◌&&◌, ◌||◌, eqb, ltb, ◌==◌, nat_lt, nat_le, List, [], ◌∷◌, ◌++◌, length, map, Option, Some, None, refl, sym, ap, ◌∙◌, subst, arith, inl, inr, append_assoc, zero-add, add-zero}
-use Rattle.std.specs.Prelude.{is_some, is_none, find, position, option_map, option_and_then, slice_get, count_by, sum_by}
+use Rattle.std.proofs.Common.{◌≡◌, ℕ, suc, ◌+◌, ◌≤◌, ◌<◌, Bool, true, false, cond, ◌&&◌, ◌||◌, ltb, ◌==◌, nat_lt, nat_le, List, [], ◌∷◌, ◌++◌, length, map, Option, Some, None, refl, sym, ap, ◌∙◌, subst, arith, append_assoc, zero-add, add-zero}
+use Rattle.std.specs.Prelude.{is_some, is_none, find, option_map, option_and_then, slice_get, sum_by}
 use Rattle.std.specs.List.{list_all, list_any, position_or_len, position_from}
 use Rattle.std.specs.Option.{option_or}
-use Rattle.std.proofs.lemmas.Bool.{and_from, and_parts, and_left, and_right, both_ways, ltb-true, ltb-false, eqb-true, eq-eqb, ne_eqb, cases_Bool}
+use Rattle.std.proofs.lemmas.Bool.{and_from, and_parts, both_ways, ltb-false, eq-eqb, ne_eqb}
 use Rattle.std.proofs.lemmas.List.{length-map, map-append, append-nil, length-append}
 use Rattle.std.proofs.lemmas.List.Folds.{find_at, list_any-append, list_all-append}
 use Rattle.std.proofs.lemmas.List.Sums.{sum_by-cons, sum_by_push}
@@ -12,8 +12,8 @@ use Rattle.std.proofs.lemmas.Option.{slice_get_past}
 use Rattle.aq_base.specs.Values.{Row}
 use Rattle.aq_base.specs.Names.{Text, same_text, is_name, is_short, all_differ, primary_key_name, foreign_key_name}
 use Rattle.aq_base.specs.Catalogs.{Catalog}
-use Rattle.aq_base.specs.Setup.{no_tables, table_number, primary_cols, referred, column_of, adds_table, adds_key, adds_keys, adds_foreign_key, adds_reference, adds_references, creates, defines, setup_from, catalog_of}
-use Rattle.aq_base.specs.Scripts.{is_primary, is_reference, constraint_fits, column_fits, can_create, can_define, can_set_up, rows_fit, table_named, can_run, session_fits, rows_in_session, fits_first_language}
+use Rattle.aq_base.specs.Setup.{no_tables, table_number, referred, column_of, adds_table, adds_key, adds_keys, adds_foreign_key, adds_reference, adds_references, creates, setup_from, catalog_of}
+use Rattle.aq_base.specs.Scripts.{is_primary, is_reference, constraint_fits, column_fits, can_create, can_set_up, rows_fit, table_named, can_run, session_fits, rows_in_session, fits_first_language}
 use Rattle.aq_base.specs.declared.catalog.Table.{Table}
 use Rattle.aq_base.specs.declared.catalog.UniqueKey.{UniqueKey}
 use Rattle.aq_base.specs.declared.catalog.ForeignKey.{ForeignKey}
@@ -25,7 +25,7 @@ use Rattle.aq_base.specs.declared.script.Statement.TheVariants.{CreateTable, Ins
 use Rattle.aq_base.specs.declared.script.Placed.{Placed}
 use Rattle.aq_base.specs.declared.script.SessionText.{SessionText}
 use Rattle.aq_base.specs.declared.script.Script.{Script}
-use Rattle.aq_parse.specs.Conditions.{created, items_named, primaries_in, references_in, has_primary, constraint_kept, column_kept, statement_references, references_before, create_kept, definition_kept, setup_kept, rows_kept, run_kept, session_kept, statements_in, script_kept}
+use Rattle.aq_parse.specs.Conditions.{created, items_named, primaries_in, references_in, has_primary, constraint_kept, column_kept, statement_references, references_before, create_kept, setup_kept, rows_kept, run_kept, session_kept, statements_in, script_kept}
 
 -- ---- what statements make
 

@@ -1,7 +1,6 @@
 -- What each form of the tree takes, and that it is read again.
-use Rattle.std.proofs.Common.{◌≡◌, ℕ, zero, suc, ◌+◌, ◌≤◌, ◌<◌, Bool, true, false, cond, not, ◌&&◌, List, [], ◌∷◌, ◌++◌, length, Option, Some, None, codes, pos, negsuc, refl, sym, ap, ◌∙◌, subst, arith, inl, inr, append_assoc}
-use Rattle.std.specs.List.{flat_map, list_all}
-use Rattle.std.proofs.lemmas.Bool.{and_from, and_parts, cond-true, cond-false}
+use Rattle.std.proofs.Common.{◌≡◌, ℕ, ◌≤◌, Bool, true, false, cond, List, [], ◌∷◌, ◌++◌, length, Option, Some, None, codes, pos, negsuc, refl, sym, ap, ◌∙◌, subst, arith, inl, inr}
+use Rattle.std.proofs.lemmas.Bool.{cond-true, cond-false}
 use Rattle.aq_base.specs.Names.{Text}
 use Rattle.aq_base.specs.Values.{Row}
 use Rattle.aq_base.specs.declared.value.Value.{Value}
@@ -13,16 +12,13 @@ use Rattle.aq_base.specs.declared.script.ColumnConstraint.TheVariants.{PrimaryKe
 use Rattle.aq_base.specs.declared.script.ColumnItem.{ColumnItem}
 use Rattle.aq_base.specs.declared.script.Statement.{Statement}
 use Rattle.aq_base.specs.declared.script.Statement.TheVariants.{CreateTable, Insert}
-use Rattle.aq_base.specs.declared.script.Placed.{Placed}
-use Rattle.aq_base.specs.declared.script.SessionText.{SessionText}
-use Rattle.aq_base.specs.declared.script.Script.{Script}
 use Rattle.aq_parse.specs.declared.token.Token.{Token}
 use Rattle.aq_parse.specs.declared.token.Token.TheVariants.{Word, Integer, Symbol, Setup, Session}
 use Rattle.aq_parse.specs.declared.token.Lexed.{Lexed}
 use Rattle.aq_parse.specs.Steps.{◌>>=◌}
-use Rattle.aq_parse.specs.Grammar.{BeginsWith, with_commas, are_some, comma, opening, closing, semicolon, constraint_tokens, item_tokens, value_tokens, row_tokens, statement_tokens, is_literal, has_form}
+use Rattle.aq_parse.specs.Grammar.{BeginsWith, with_commas, are_some, opening, closing, constraint_tokens, item_tokens, value_tokens, row_tokens, statement_tokens, is_literal, has_form}
 use Rattle.aq_parse.specs.Parsing.{is_keyword, is_mark, begins_with, behind_one, name_at, value_from, value_at, listed_at, constraint_at, item_at, row_at, create_at, insert_at, statement_at}
-use Rattle.aq_parse.proofs.Tests.{bind_some, chosen, some_is, none_is_not}
+use Rattle.aq_parse.proofs.Facts.{bind_some, chosen, some_is, none_is_not}
 use Rattle.aq_parse.proofs.Fronts.{begins_then, begins_split, begins_length, keyword_test, mark_test, one_takes, one_again, first_is, name_takes, name_again}
 use Rattle.aq_parse.proofs.Readers.{is_symbol_token, IsReader, listed_takes, listed_again}
 
@@ -68,7 +64,7 @@ row_takes tokens found e =
     let tb = listed_takes value_tokens is_literal value_at value_reader a.0 b.0 b.1 in
     let tc = one_takes (is_mark 41) closing b.0.1 c.0 (mark_test 41) c.1 in
     let made : Row × List Lexed = (b.0.0, c.0) in
-    subst (λ (f : Row × List Lexed). IsTaken row_tokens (are_some is_literal) tokens f) (some_is made found c.2)
+    subst (λ (f : Row × List Lexed). IsTaken row_tokens (are_some is_literal) tokens f) {x = made} (some_is made found c.2)
     (begins_then (opening ∷ []) (with_commas value_tokens b.0.0 ++ closing ∷ []) tokens a.0 c.0 ta (begins_then (with_commas value_tokens b.0.0) (closing ∷ []) a.0 b.0.1 c.0 tb.0 tc), tb.1)
 
 row_again : (row : Row) (tokens rest : List Lexed) → BeginsWith (row_tokens row) tokens rest → are_some is_literal row ≡ true → begins_with is_symbol_token rest ≡ true → row_at tokens ≡ Some (row, rest)
@@ -102,7 +98,7 @@ constraint_takes tokens found e =
           let ta = one_takes (is_keyword (codes "primary")) (Word (codes "primary")) tokens a.0 (keyword_test (codes "primary")) a.1 in
           let tb = one_takes (is_keyword (codes "key")) (Word (codes "key")) a.0 b.0 (keyword_test (codes "key")) b.1 in
           let made : Option ColumnConstraint × List Lexed = (Some PrimaryKey, b.0) in
-          subst (λ (f : Option ColumnConstraint × List Lexed). BeginsWith (constraint_tokens f.0) tokens f.1) (some_is made found b.2)
+          subst (λ (f : Option ColumnConstraint × List Lexed). BeginsWith (constraint_tokens f.0) tokens f.1) {x = made} (some_is made found b.2)
           (begins_then (Word (codes "primary") ∷ []) (Word (codes "key") ∷ []) tokens a.0 b.0 ta tb)
       | inr g ↦ elim (chosen (begins_with (is_keyword (codes "references")) tokens) (behind_one (is_keyword (codes "references")) tokens >>= references) (Some (None, tokens)) (Some found) g.1) [
         | inl k ↦
@@ -111,11 +107,11 @@ constraint_takes tokens found e =
             let ta = one_takes (is_keyword (codes "references")) (Word (codes "references")) tokens a.0 (keyword_test (codes "references")) a.1 in
             let tb = name_takes a.0 b.0 b.1 in
             let made : Option ColumnConstraint × List Lexed = (Some (References b.0.0), b.0.1) in
-            subst (λ (f : Option ColumnConstraint × List Lexed). BeginsWith (constraint_tokens f.0) tokens f.1) (some_is made found b.2)
+            subst (λ (f : Option ColumnConstraint × List Lexed). BeginsWith (constraint_tokens f.0) tokens f.1) {x = made} (some_is made found b.2)
             (begins_then (Word (codes "references") ∷ []) (Word b.0.0 ∷ []) tokens a.0 b.0.1 ta tb)
         | inr k ↦
             let made : Option ColumnConstraint × List Lexed = (None, tokens) in
-            subst (λ (f : Option ColumnConstraint × List Lexed). BeginsWith (constraint_tokens f.0) tokens f.1) (some_is made found k.1) refl
+            subst (λ (f : Option ColumnConstraint × List Lexed). BeginsWith (constraint_tokens f.0) tokens f.1) {x = made} (some_is made found k.1) refl
       ]
     ]
 
@@ -152,7 +148,7 @@ item_takes tokens found e =
     let tb = one_takes (is_keyword (codes "integer")) (Word (codes "integer")) a.0.1 b.0 (keyword_test (codes "integer")) b.1 in
     let tc = constraint_takes b.0 c.0 c.1 in
     let made : ColumnItem × List Lexed = (record { name = a.0.0; kind = kinds.Integer; constraint = c.0.0 }, c.0.1) in
-    subst (λ (f : ColumnItem × List Lexed). IsTaken item_tokens (λ item. true) tokens f) (some_is made found c.2)
+    subst (λ (f : ColumnItem × List Lexed). IsTaken item_tokens (λ item. true) tokens f) {x = made} (some_is made found c.2)
     (begins_then (Word a.0.0 ∷ []) (Word (codes "integer") ∷ constraint_tokens c.0.0) tokens a.0.1 c.0.1 ta (begins_then (Word (codes "integer") ∷ []) (constraint_tokens c.0.0) a.0.1 b.0 c.0.1 tb tc), refl)
 
 is_integer : (kind : Kind) → kind ≡ kinds.Integer
@@ -191,7 +187,7 @@ create_takes tokens found e =
     let named = begins_then (Word c.0.0 ∷ []) (opening ∷ with_commas item_tokens f.0.0 ++ closing ∷ []) b.0 c.0.1 g.0 tc opened in
     let table = begins_then (Word (codes "table") ∷ []) (Word c.0.0 ∷ opening ∷ with_commas item_tokens f.0.0 ++ closing ∷ []) a.0 b.0 g.0 tb named in
     let made : Statement × List Lexed = (CreateTable c.0.0 f.0.0, g.0) in
-    subst (λ (f : Statement × List Lexed). IsTaken statement_tokens has_form tokens f) (some_is made found g.2)
+    subst (λ (f : Statement × List Lexed). IsTaken statement_tokens has_form tokens f) {x = made} (some_is made found g.2)
     (begins_then (Word (codes "create") ∷ []) (Word (codes "table") ∷ Word c.0.0 ∷ opening ∷ with_commas item_tokens f.0.0 ++ closing ∷ []) tokens a.0 g.0 ta table, tf.1)
 
 insert_takes : (tokens : List Lexed) (found : Statement × List Lexed) → insert_at tokens ≡ Some found → IsTaken statement_tokens has_form tokens found
@@ -211,7 +207,7 @@ insert_takes tokens found e =
     let named = begins_then (Word c.0.0 ∷ []) (Word (codes "values") ∷ with_commas row_tokens f.0.0) b.0 c.0.1 f.0.1 tc values in
     let into = begins_then (Word (codes "into") ∷ []) (Word c.0.0 ∷ Word (codes "values") ∷ with_commas row_tokens f.0.0) a.0 b.0 f.0.1 tb named in
     let made : Statement × List Lexed = (Insert c.0.0 f.0.0, f.0.1) in
-    subst (λ (f : Statement × List Lexed). IsTaken statement_tokens has_form tokens f) (some_is made found f.2)
+    subst (λ (f : Statement × List Lexed). IsTaken statement_tokens has_form tokens f) {x = made} (some_is made found f.2)
     (begins_then (Word (codes "insert") ∷ []) (Word (codes "into") ∷ Word c.0.0 ∷ Word (codes "values") ∷ with_commas row_tokens f.0.0) tokens a.0 f.0.1 ta into, tf.1)
 
 pub statement_takes : (tokens : List Lexed) (found : Statement × List Lexed) → statement_at tokens ≡ Some found → IsTaken statement_tokens has_form tokens found

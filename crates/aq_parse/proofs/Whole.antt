@@ -1,8 +1,7 @@
 -- The script that is found in bytes is what they read as, and there is no other.
-use Rattle.std.proofs.Common.{◌≡◌, ℕ, Bool, true, false, cond, List, Option, Some, None, refl, sym, ap, ◌∙◌, subst, inl, inr}
+use Rattle.std.proofs.Common.{◌≡◌, ℕ, cond, List, Some, None, refl, sym, ◌∙◌, subst, inl, inr}
 use Rattle.aq_base.specs.Scripts.{fits_first_language}
 use Rattle.aq_base.specs.declared.script.Script.{Script}
-use Rattle.aq_parse.specs.declared.token.Lexed.{Lexed}
 use Rattle.aq_parse.specs.Steps.{◌>>=◌}
 use Rattle.aq_parse.specs.Tokens.{beginning}
 use Rattle.aq_parse.specs.declared.fault.ScriptFault.{ScriptFault}
@@ -11,7 +10,7 @@ use Rattle.aq_parse.specs.Reading.{Reads, HasNoReading, IfRefused}
 use Rattle.aq_parse.specs.Lexing.{tokens_from}
 use Rattle.aq_parse.specs.Parsing.{script_at}
 use Rattle.aq_parse.specs.Whole.{script_in}
-use Rattle.aq_parse.proofs.Tests.{bind_some, chosen, some_is, none_is_not}
+use Rattle.aq_parse.proofs.Facts.{bind_some, chosen, some_is, none_is_not}
 use Rattle.aq_parse.proofs.Lexing.{lexed_so, lexed_again}
 use Rattle.aq_parse.proofs.Sections.{script_takes, script_again}
 

@@ -2,7 +2,7 @@
 --     script    = [\setup {CREATE TABLE .. ;}] [\session NAME {INSERT .. ;}]
 --     CREATE TABLE table ( item , item )         item = column integer [PRIMARY KEY | REFERENCES table]
 --     INSERT INTO table VALUES ( value , value ) , ( value , value )
-use Rattle.std.specs.Prelude.{◌≡◌, ℕ, ℤ, pos, negsuc, Bool, true, false, not, ◌&&◌, List, [], ◌∷◌, ◌++◌, Option, Some, None, codes, IsTrue, ◌⊎◌}
+use Rattle.std.specs.Prelude.{◌≡◌, ℕ, pos, negsuc, Bool, true, false, ◌&&◌, List, [], ◌∷◌, ◌++◌, Option, Some, None, codes, IsTrue, ◌⊎◌}
 use Rattle.std.specs.List.{list_all, flat_map}
 use Rattle.aq_base.specs.Values.{Row}
 use Rattle.aq_base.specs.declared.value.Value.{Value}
@@ -19,15 +19,19 @@ use Rattle.aq_parse.specs.declared.token.Token.{Token}
 use Rattle.aq_parse.specs.declared.token.Token.TheVariants.{Word, Integer, Symbol, Setup, Session}
 use Rattle.aq_parse.specs.declared.token.Lexed.{Lexed}
 
+-- `(`
 abbrev pub opening : Token
 opening = Symbol 40
 
+-- `)`
 abbrev pub closing : Token
 closing = Symbol 41
 
+-- `,`
 abbrev pub comma : Token
 comma = Symbol 44
 
+-- `;`
 abbrev pub semicolon : Token
 semicolon = Symbol 59
 
@@ -36,11 +40,13 @@ abbrev pub with_commas : {A : Type 0} → (A → List Token) → List A → List
 with_commas tokens [] = []
 with_commas tokens (x ∷ others) = tokens x ++ flat_map (λ other. comma ∷ tokens other) others
 
+-- nothing, PRIMARY KEY, or REFERENCES with a table's name
 abbrev pub constraint_tokens : Option ColumnConstraint → List Token
 constraint_tokens None = []
 constraint_tokens (Some PrimaryKey) = Word (codes "primary") ∷ Word (codes "key") ∷ []
 constraint_tokens (Some (References parent)) = Word (codes "references") ∷ Word parent ∷ []
 
+-- a column's name, `integer`, and its constraint
 abbrev pub item_tokens : ColumnItem → List Token
 item_tokens item = Word item.name ∷ Word (codes "integer") ∷ constraint_tokens item.constraint
 
@@ -52,15 +58,18 @@ value_tokens (Int (pos number)) = Integer number ∷ []
 value_tokens (Int (negsuc number)) = []
 value_tokens (Text text) = []
 
+-- values in parentheses
 abbrev pub row_tokens : Row → List Token
 row_tokens row = opening ∷ with_commas value_tokens row ++ closing ∷ []
 
+-- a statement without its `;`
 abbrev pub statement_tokens : Statement → List Token
 statement_tokens (CreateTable table items) =
     Word (codes "create") ∷ Word (codes "table") ∷ Word table ∷ opening ∷ with_commas item_tokens items ++ closing ∷ []
 statement_tokens (Insert table rows) =
     Word (codes "insert") ∷ Word (codes "into") ∷ Word table ∷ Word (codes "values") ∷ with_commas row_tokens rows
 
+-- a value that has tokens
 abbrev pub is_literal : Value → Bool
 is_literal Null = false
 is_literal (Truth b) = false
@@ -84,6 +93,7 @@ BeginsWith [] tokens rest = tokens ≡ rest
 BeginsWith (token ∷ others) tokens rest =
     (line : ℕ) × (behind : List Lexed) × (tokens ≡ record { token = token; line = line } ∷ behind) × BeginsWith others behind rest
 
+-- the line of the first token
 abbrev pub first_line : List Lexed → Option ℕ
 first_line [] = None
 first_line (lexed ∷ others) = Some lexed.line

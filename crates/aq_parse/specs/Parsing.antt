@@ -19,6 +19,7 @@ use Rattle.aq_parse.specs.declared.token.Lexed.{Lexed}
 use Rattle.aq_parse.specs.Steps.{◌>>=◌}
 use Rattle.aq_parse.specs.Grammar.{first_line}
 
+-- the token is this word
 abbrev pub is_keyword : Text → Token → Bool
 is_keyword word (Word text) = same_text text word
 is_keyword word (Integer number) = false
@@ -26,6 +27,7 @@ is_keyword word (Symbol byte) = false
 is_keyword word Setup = false
 is_keyword word Session = false
 
+-- the token is this symbol
 abbrev pub is_mark : ℕ → Token → Bool
 is_mark mark (Word text) = false
 is_mark mark (Integer number) = false
@@ -33,6 +35,7 @@ is_mark mark (Symbol byte) = byte == mark
 is_mark mark Setup = false
 is_mark mark Session = false
 
+-- the token is `\setup`
 abbrev pub is_setup : Token → Bool
 is_setup (Word text) = false
 is_setup (Integer number) = false
@@ -40,6 +43,7 @@ is_setup (Symbol byte) = false
 is_setup Setup = true
 is_setup Session = false
 
+-- the token is `\session`
 abbrev pub is_session : Token → Bool
 is_session (Word text) = false
 is_session (Integer number) = false
@@ -57,6 +61,7 @@ abbrev pub behind_one : (Token → Bool) → List Lexed → Option (List Lexed)
 behind_one test [] = None
 behind_one test (lexed ∷ rest) = if test lexed.token then Some rest else None
 
+-- a word that is taken as a name
 abbrev pub name_from : Token → List Lexed → Option (Text × List Lexed)
 name_from (Word text) rest = Some (text, rest)
 name_from (Integer number) rest = None
@@ -64,10 +69,12 @@ name_from (Symbol byte) rest = None
 name_from Setup rest = None
 name_from Session rest = None
 
+-- the name with which the tokens begin
 abbrev pub name_at : List Lexed → Option (Text × List Lexed)
 name_at [] = None
 name_at (lexed ∷ rest) = name_from lexed.token rest
 
+-- an integer that is taken as a value
 abbrev pub value_from : Token → List Lexed → Option (Value × List Lexed)
 value_from (Word text) rest = None
 value_from (Integer number) rest = Some (Int (pos number), rest)
@@ -75,6 +82,7 @@ value_from (Symbol byte) rest = None
 value_from Setup rest = None
 value_from Session rest = None
 
+-- the value with which the tokens begin
 abbrev pub value_at : List Lexed → Option (Value × List Lexed)
 value_at [] = None
 value_at (lexed ∷ rest) = value_from lexed.token rest
@@ -97,6 +105,7 @@ listed_at element tokens =
     element tokens >>= λ first.
     repeated_at (begins_with (is_mark 44)) (next_at element) (length first.1) first.1 >>= λ others. Some (first.0 ∷ others.0, others.1)
 
+-- the constraint behind a column, where there is one
 unfoldable pub constraint_at : List Lexed → Option (Option ColumnConstraint × List Lexed)
 constraint_at tokens =
     if begins_with (is_keyword (codes "primary")) tokens
@@ -107,6 +116,7 @@ constraint_at tokens =
     name_at table >>= λ parent. Some (Some (References parent.0), parent.1))
     else Some (None, tokens))
 
+-- a column with its constraint
 unfoldable pub item_at : List Lexed → Option (ColumnItem × List Lexed)
 item_at tokens = do
   name ← name_at tokens
@@ -114,6 +124,7 @@ item_at tokens = do
   constraint ← constraint_at kind
   Some (record { name = name.0; kind = kinds.Integer; constraint = constraint.0 }, constraint.1)
 
+-- values in parentheses
 unfoldable pub row_at : List Lexed → Option (Row × List Lexed)
 row_at tokens = do
   inside ← behind_one (is_mark 40) tokens
@@ -121,6 +132,7 @@ row_at tokens = do
   rest ← behind_one (is_mark 41) values.1
   Some (values.0, rest)
 
+-- CREATE TABLE
 unfoldable pub create_at : List Lexed → Option (Statement × List Lexed)
 create_at tokens = do
   word ← behind_one (is_keyword (codes "create")) tokens
@@ -131,6 +143,7 @@ create_at tokens = do
   rest ← behind_one (is_mark 41) items.1
   Some (CreateTable table.0 items.0, rest)
 
+-- INSERT
 unfoldable pub insert_at : List Lexed → Option (Statement × List Lexed)
 insert_at tokens = do
   word ← behind_one (is_keyword (codes "insert")) tokens
@@ -140,6 +153,7 @@ insert_at tokens = do
   rows ← listed_at row_at values
   Some (Insert table.0 rows.0, rows.1)
 
+-- CREATE TABLE where the tokens begin with CREATE, else INSERT
 unfoldable pub statement_at : List Lexed → Option (Statement × List Lexed)
 statement_at tokens = if begins_with (is_keyword (codes "create")) tokens then create_at tokens else insert_at tokens
 
@@ -156,9 +170,11 @@ abbrev pub goes_on : List Lexed → Bool
 goes_on [] = false
 goes_on (lexed ∷ rest) = not (is_session lexed.token)
 
+-- statements up to the end or to a session
 abbrev pub statements_at : List Lexed → Option (List Placed × List Lexed)
 statements_at tokens = repeated_at goes_on placed_at (length tokens) tokens
 
+-- the statements of the setup section, where there is one
 unfoldable pub setup_at : List Lexed → Option (List Placed × List Lexed)
 setup_at tokens =
     if begins_with is_setup tokens then (behind_one is_setup tokens >>= λ rest. statements_at rest) else Some ([], tokens)
@@ -168,6 +184,7 @@ abbrev pub ended : {A : Type 0} → A → List Lexed → Option A
 ended x [] = Some x
 ended x (lexed ∷ rest) = None
 
+-- a session that ends with the script
 unfoldable pub session_at : List Lexed → Option SessionText
 session_at tokens = do
   named ← behind_one is_session tokens
@@ -175,10 +192,12 @@ session_at tokens = do
   statements ← statements_at name.1
   ended (record { name = name.0; statements = statements.0 }) statements.1
 
+-- the session, where there is one
 abbrev pub sessions_at : List Lexed → Option (List SessionText)
 sessions_at [] = Some []
 sessions_at (lexed ∷ rest) = session_at (lexed ∷ rest) >>= λ session. Some (session ∷ [])
 
+-- the setup section and the session, and nothing else
 unfoldable pub script_at : List Lexed → Option Script
 script_at tokens = do
   setup ← setup_at tokens

@@ -28,6 +28,7 @@ fn reads_row_two(rt: HostRuntime) -> Result<(), Fail> {
 
 #[test]
 fn reads_no_bytes(rt: HostRuntime) -> Result<(), Fail> {
+    one_reading();
     let script = read_script(rt.alloc(), b"").ok().ok_or("refused")?;
     assert!(rt; script.setup.is_empty() && script.sessions.is_empty() && script.schedule.is_none());
     Ok(())

@@ -1,4 +1,4 @@
-use Rattle.std.proofs.Common.{◌≡◌, ◌+◌, ◌-◌, ◌^◌, length, take, min}
+use Rattle.std.proofs.Common.{◌≡◌, ◌-◌, ◌^◌, take, min}
 use Rattle.std.specs.List.{sum_by}
 use Rattle.aq_base.specs.Scripts.{rows_in_session}
 use Rattle.aq_parse.proofs.conditions.rows_in_sessions.Given as goal

@@ -1,4 +1,4 @@
-use Rattle.std.proofs.Common.{◌≡◌, Bool, true, sym, ◌∙◌, arith}
+use Rattle.std.proofs.Common.{◌≡◌, true, sym, ◌∙◌, arith}
 use Rattle.aq_parse.specs.Tokens.{is_digit}
 use Rattle.aq_parse.proofs.Lexing.{digit_goes_on}
 use Rattle.aq_parse.proofs.lexer.integer_at.Goals as goal

@@ -1,4 +1,4 @@
-use Rattle.std.proofs.Common.{◌≡◌, ◌+◌, ◌-◌, ◌*◌, ◌≤◌, ◌++◌, length, min}
+use Rattle.std.proofs.Common.{◌≡◌, ◌+◌, ◌-◌, ◌*◌, ◌≤◌, length, min}
 use Rattle.std.specs.List.{fold}
 use Rattle.aq_parse.specs.Tokens.{is_digit, number_of}
 use Rattle.aq_parse.specs.Lexing.{front, behind}

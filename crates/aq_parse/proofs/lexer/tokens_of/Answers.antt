@@ -1,8 +1,7 @@
-use Rattle.std.proofs.Common.{◌≡◌, ◌<◌, Bool, true, false, length, refl, sym, ◌∙◌, arith, eqb}
+use Rattle.std.proofs.Common.{◌≡◌, true, false, sym, ◌∙◌, arith}
 use Rattle.std.proofs.lemmas.Result.{err_from_is_err_and}
-use Rattle.std.proofs.lemmas.Bool.{ne_eqb}
 use Rattle.aq_parse.specs.Tokens.{is_blank}
-use Rattle.aq_parse.proofs.Lexing.{goes_on_blank, goes_on_token, fails_token, is_all, line_end, other_blank}
+use Rattle.aq_parse.proofs.Lexing.{goes_on_token, fails_token, is_all, line_end, other_blank}
 use Rattle.aq_parse.proofs.lexer.tokens_of.Goals as goal
 
 pub bytes-preserved-then-byte-eq10 : goal.bytes-preserved-then-byte-eq10

@@ -1,9 +1,7 @@
-use Rattle.std.proofs.Common.{◌≡◌, Bool, true, false, List, Option, Some, sym, ap, ◌∙◌, ◌<◌, length, arith}
+use Rattle.std.proofs.Common.{◌≡◌, true, false, Some, sym, ◌∙◌}
 use Rattle.std.proofs.lemmas.Result.{err_from_is_err_and}
-use Rattle.aq_parse.specs.declared.token.Lexed.{Lexed}
-use Rattle.aq_parse.specs.Steps.{◌>>=◌}
 use Rattle.aq_parse.specs.Grammar.{are_some, row_tokens, is_literal}
-use Rattle.aq_parse.specs.Parsing.{begins_with, behind_one, is_mark, next_at, row_at}
+use Rattle.aq_parse.specs.Parsing.{begins_with, is_mark, next_at, row_at}
 use Rattle.aq_parse.proofs.Listing.{goes_on_with, fails_with, ends_with_all}
 use Rattle.aq_parse.proofs.Readers.{first_stands, first_fails, next_shortens, next_is, next_fails, some_tokens}
 use Rattle.aq_parse.proofs.Trees.{row_reader}

@@ -1,6 +1,6 @@
-use Rattle.std.proofs.Common.{◌≡◌, Bool, true, false, Some, sym, ◌∙◌, length, arith}
+use Rattle.std.proofs.Common.{◌≡◌, true, false, sym, ◌∙◌}
 use Rattle.std.proofs.lemmas.Result.{err_from_is_err_and}
-use Rattle.aq_parse.specs.Parsing.{placed_at, goes_on, statements_at}
+use Rattle.aq_parse.specs.Parsing.{placed_at, goes_on}
 use Rattle.aq_parse.proofs.Listing.{goes_on_with, fails_with, ends_with_all}
 use Rattle.aq_parse.proofs.Sections.{placed_shortens, statements_stand, some_go_on}
 use Rattle.aq_parse.proofs.parser.statements.Goals as goal

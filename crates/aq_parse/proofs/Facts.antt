@@ -1,8 +1,8 @@
 -- Tests on bytes, and options that are given.
-use Rattle.std.proofs.Common.{◌≡◌, ℕ, ◌+◌, ◌-◌, ◌*◌, ◌≤◌, ◌<◌, Bool, true, false, cond, not, ◌&&◌, ◌||◌, List, [], ◌∷◌, ◌++◌, length, map, Option, Some, None, refl, sym, ap, ◌∙◌, subst, arith, ◌⊎◌, inl, inr, eqb}
-use Rattle.std.proofs.lemmas.Bool.{or_cases, or_left, or_right, eqb-true, and_parts, and_from, cases_Bool, false≢true, not-true, both_ways}
+use Rattle.std.proofs.Common.{◌≡◌, ℕ, Bool, true, false, cond, ◌||◌, Option, Some, None, refl, arith, ◌⊎◌, inl, inr, eqb}
+use Rattle.std.proofs.lemmas.Bool.{or_cases, or_left, eqb-true, cases_Bool, both_ways}
 use Rattle.std.proofs.lemmas.Bool.Decides.{nat_tests}
-use Rattle.aq_base.specs.Names.{begins_word, goes_on_in_word}
+use Rattle.aq_base.specs.Names.{begins_word}
 use Rattle.aq_parse.specs.Steps.{◌>>=◌}
 use Rattle.aq_parse.specs.Tokens.{lower, is_blank, is_symbol, is_digit, is_in_word}
 

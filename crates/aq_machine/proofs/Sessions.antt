@@ -1,0 +1,26 @@
+-- A state with one session at the most.
+use Rattle.std.proofs.Common.{◌≡◌, ℕ, zero, suc, ◌≤◌, true, List, [], ◌∷◌, length, slice_get, ap, arith}
+use Rattle.std.proofs.lemmas.Bool.{leb-true, ltb-true, and_parts}
+use Rattle.aq_base.specs.Catalogs.{Catalog}
+use Rattle.aq_base.specs.Scripts.{fits_first_language}
+use Rattle.aq_base.specs.Setup.{catalog_of, program_of}
+use Rattle.aq_base.specs.declared.script.Script.{Script}
+use Rattle.aq_base.specs.declared.script.Bound.{Bound}
+use Rattle.aq_run.specs.States.{World, Session, State}
+use Rattle.aq_run.specs.Steps.{step, plan_of, effects_of, with_scene, is_enabled}
+use Rattle.aq_machine.specs.Runnings.{StepsTo}
+
+-- a script of the first language has one session at the most
+pub one_session : (script : Script) → fits_first_language script ≡ true → length script.sessions ≤ 1
+one_session script fits = leb-true _ _ (and_parts _ _ (and_parts _ _ (and_parts _ _ (and_parts _ _ fits).0).0).0).1
+
+-- one step of the one session
+pub step-one : (script : Script) (catalog : Catalog) (statements : List Bound) (world after : World) (session left : Session) (s : ℕ)
+    → catalog ≡ catalog_of script → (program_of script).sessions ≡ statements ∷ [] → is_enabled (record { world = world; sessions = session ∷ [] }) s ≡ true
+    → StepsTo catalog s (slice_get statements session.next) world session after left
+    → record { world = after; sessions = left ∷ [] } ≡ step (program_of script) (record { world = world; sessions = session ∷ [] }) s
+unfolding step plan_of effects_of
+step-one script catalog statements world after session left zero is are enabled goes =
+    let st : State = record { world = world; sessions = session ∷ [] } in
+    rw are (rw (← is) (ap (with_scene st 0) goes))
+step-one script catalog statements world after session left (suc s) is are enabled goes = absurd (omega (arith, ltb-true (suc s) 1 (and_parts _ _ enabled).0))
