@@ -15,6 +15,10 @@ use Rattle.aq_journal.specs.Journals.{Journal, IsJournal, GoesOn, Finishes}
 pub is_enabled-past : (st : State) (s : ℕ) → length st.sessions ≤ s → is_enabled st s ≡ false
 is_enabled-past st s past = let none : ltb s (length st.sessions) ≡ false = grind (arith, nat_tests) in rw none refl
 
+pub IsJournal-start : (script : Script) (st : State) → st ≡ opening (program_of script) → IsJournal script st []
+unfolding run_from CanRunFrom
+IsJournal-start script st start = record { replay = start; can_run = tt }
+
 pub IsJournal-push : (script : Script) (st : State) (schedule : Schedule) (s : ℕ) → IsJournal script st schedule → is_enabled st s ≡ true
     → IsJournal script (step (program_of script) st s) (schedule ++ s ∷ [])
 IsJournal-push script st schedule s journal enabled =
@@ -41,7 +45,7 @@ GoesOn-push before after s goes least =
       schedule = ap (λ (w : Schedule). w ++ s ∷ []) goes.schedule ∙ append_assoc before.schedule goes.later (s ∷ []);
       by_default = GoesByDefault-push (program_of before.script) before.state goes.later s goes.by_default least_there;
       ran = ap (λ script. step (program_of script) after.state s) goes.same_script ∙ ap (λ st. step (program_of before.script) st s) goes.ran
-        ∙ sym (run_from-push (program_of before.script) before.state goes.later s);
+          ∙ sym (run_from-push (program_of before.script) before.state goes.later s);
     }
 
 pub Finishes-from_none : (before after : Journal) → GoesOn before after → IsJournal after.script after.state after.schedule → ((s : ℕ) → is_enabled after.state s ≡ false) → Finishes before after

@@ -30,7 +30,11 @@ fn push_given(out: &mut Vec<u8>, sessions: &[SessionText], given: &Given) -> Res
     Ok(out.push(b'\n')?)
 }
 
-fn push_replies(out: &mut Vec<u8>, sessions: &[SessionText], replies: &[Given]) -> Result<(), NoMemory>
+fn push_replies(
+    out: &mut Vec<u8>,
+    sessions: &[SessionText],
+    replies: &[Given],
+) -> Result<(), NoMemory>
     ensures { OnOk result (out.new.items ≡ out.old.items ++ replies_text (map (λ s. s.name) sessions.now) (map given_shown replies.now)) }
 {
     for given in replies {

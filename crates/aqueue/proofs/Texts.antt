@@ -60,9 +60,9 @@ finished_text script after output e finishes printed =
     let later : Schedule = goes.later in
     let fit = fits script e in
     let out_is : output ≡ text (program_of script) later =
-        printed ∙ ap (λ s. text (program_of s) after.schedule) goes.same_script ∙ ap (λ (w : Schedule). text (program_of script) w) goes.schedule in
+    printed ∙ ap (λ s. text (program_of s) after.schedule) goes.same_script ∙ ap (λ (w : Schedule). text (program_of script) w) goes.schedule in
     let complete : IsComplete (program_of script) later =
-        subst (λ s. IsComplete (program_of s) later) goes.same_script (subst (λ (w : Schedule). IsComplete (program_of after.script) w) goes.schedule finishes.complete) in
+    subst (λ s. IsComplete (program_of s) later) goes.same_script (subst (λ (w : Schedule). IsComplete (program_of after.script) w) goes.schedule finishes.complete) in
     let can_run : IsSchedule (program_of script) later = CanRunFrom-by_default (program_of script) (opening (program_of script)) later goes.by_default in
     record {
       schedule = later;

@@ -15,7 +15,6 @@ use std::{env, io};
 #[cfg(test)]
 mod tests;
 
-
 // The words after the program's name. Words that are no text are no list that is built, as no words are.
 fn words<R: Env + AllocGlobal>(rt: &R) -> Result<List<TextVal>, NoMemory> {
     let mut words = List::new(rt.alloc());
@@ -37,7 +36,12 @@ fn words<R: Env + AllocGlobal>(rt: &R) -> Result<List<TextVal>, NoMemory> {
 fn main(rt: HostRuntime) -> ExitCode {
     let status = match words(&rt) {
         Err(NoMemory) => 6,
-        Ok(words) => aqueue(rt.alloc(), &words, &mut StdSource::new(rt.stdin()), &mut StdSink::new(rt.stdout())),
+        Ok(words) => aqueue(
+            rt.alloc(),
+            &words,
+            &mut StdSource::new(rt.stdin()),
+            &mut StdSink::new(rt.stdout()),
+        ),
     };
     ExitCode::from(status)
 }

@@ -18,7 +18,8 @@ use std::alloc::Global;
 /// The most bytes that a script may have.
 pub const SCRIPT_LIMIT: usize = 16777216;
 
-const USAGE: &[u8] = b"aqueue: usage: aqueue run [--trace] | replay [--trace] | check | drill --rows N\n";
+const USAGE: &[u8] =
+    b"aqueue: usage: aqueue run [--trace] | replay [--trace] | check | drill --rows N\n";
 
 const TOO_LONG: &[u8] = b"aqueue: script longer than 16777216 bytes\n";
 
@@ -73,7 +74,11 @@ fn replayed(alloc: Global, bytes: &[u8]) -> Result<Outcome, NoMemory>
     }
 }
 
-fn prepared<S: Source>(alloc: Global, words: &List<TextVal>, input: &mut S) -> Result<Outcome, NoMemory>
+fn prepared<S: Source>(
+    alloc: Global,
+    words: &List<TextVal>,
+    input: &mut S,
+) -> Result<Outcome, NoMemory>
     ensures cases { IfOk result (OutcomeCases words.now (S.left input.old) (S.faults input.old) (S.faults input.new)) }
     ensures count { S.faults input.old ≤ S.faults input.new }
 {
@@ -104,7 +109,12 @@ fn prepared<S: Source>(alloc: Global, words: &List<TextVal>, input: &mut S) -> R
 /// | 5 | the sink failed; a beginning of the text or line was written |
 /// | 6 | want of memory, which may come at any growth before the first byte is written; nothing was written |
 /// | 7 | the source gave more than 16,777,216 bytes; a line was written |
-pub fn aqueue<S: Source, K: Sink>(alloc: Global, words: &List<TextVal>, input: &mut S, output: &mut K) -> u8
+pub fn aqueue<S: Source, K: Sink>(
+    alloc: Global,
+    words: &List<TextVal>,
+    input: &mut S,
+    output: &mut K,
+) -> u8
     // 0: all bytes were read, and what was written is the text of the run of the script that they are.
     ensures done { result ≡ 0 → (are_replay words.now ≡ true) × Wrote (S.left input.old) (K.written output.old) (K.written output.new) IsReplay }
     // 1: exactly where the words are no list that is built.

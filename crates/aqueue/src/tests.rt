@@ -5,6 +5,10 @@ ghost use Rattle.std.specs.Prelude.{◌≤◌};
 use crate::program::aqueue;
 use aq_base::{List, NoMemory, TextVal};
 use aq_causes::{MemorySink, MemorySource};
+use aq_journal::Shared;
+use aq_machine::Machine;
+use aq_parse::read_script;
+use aq_xids::SessNo;
 use std::alloc::Global;
 use std::test::Fail;
 
@@ -26,7 +30,8 @@ table c (pid)
 schedule a*18
 ";
 
-const USAGE: &str = "aqueue: usage: aqueue run [--trace] | replay [--trace] | check | drill --rows N\n";
+const USAGE: &str =
+    "aqueue: usage: aqueue run [--trace] | replay [--trace] | check | drill --rows N\n";
 
 const NOT_BUILT: &str = "aqueue: line 1: 0A000 this form is not built\n";
 
@@ -47,7 +52,14 @@ fn numbers_of(alloc: Global, numbers: &[u64]) -> Result<List<u64>, NoMemory> {
 }
 
 // The status and the sink behind a call whose source gives at most `piece` bytes at once and fails at the calls `fail`, and whose sink has `room`.
-fn answer_of(alloc: Global, words: &[&str], script: &str, piece: usize, fail: &[u64], room: usize) -> Result<(u8, MemorySink), NoMemory>
+fn answer_of(
+    alloc: Global,
+    words: &[&str],
+    script: &str,
+    piece: usize,
+    fail: &[u64],
+    room: usize,
+) -> Result<(u8, MemorySink), NoMemory>
     requires { 1 ≤ piece }
 {
     let words = words_of(alloc, words)?;
@@ -61,7 +73,14 @@ fn answer_of(alloc: Global, words: &[&str], script: &str, piece: usize, fail: &[
 fn a_missing_parent_is_refused_in_any_pieces(rt: HostRuntime) -> Result<(), Fail> {
     for piece in [1usize, 2, 7, 4096] {
         if piece >= 1 {
-            let (status, sink) = answer_of(rt.alloc(), &["replay"], PARENT_AND_CHILD, piece, &[], 4096)?;
+            let (status, sink) = answer_of(
+                rt.alloc(),
+                &["replay"],
+                PARENT_AND_CHILD,
+                piece,
+                &[],
+                4096,
+            )?;
             assert_eq!(rt; status, 0, "in pieces of {piece}");
             assert_eq!(rt; sink.bytes(), ITS_TEXT.as_bytes(), "in pieces of {piece}");
         }
@@ -75,7 +94,11 @@ fn short_scripts(rt: HostRuntime) -> Result<(), Fail> {
         ("", 0u8, "schedule\n"),
         ("\\setup", 0, "schedule\n"),
         ("\\session a", 0, "schedule a*1\n"),
-        ("\\setup CREATE TABLE T (Id INTEGER);", 0, "table t (id)\nschedule\n"),
+        (
+            "\\setup CREATE TABLE T (Id INTEGER);",
+            0,
+            "table t (id)\nschedule\n",
+        ),
         ("\\setup CREATE TABLE t (id text);", 2, NOT_BUILT),
         ("\\session a SELECT * FROM t;", 2, NOT_BUILT),
         ("\\session a INSERT INTO t VALUES (1);", 2, NOT_BUILT),
@@ -108,7 +131,13 @@ schedule shop*10
 
 #[test]
 fn only_replay_is_built(rt: HostRuntime) -> Result<(), Fail> {
-    let cases: [&[&str]; 5] = [&[], &["check"], &["replay", "--trace"], &["Replay"], &["replay", "replay"]];
+    let cases: [&[&str]; 5] = [
+        &[],
+        &["check"],
+        &["replay", "--trace"],
+        &["Replay"],
+        &["replay", "replay"],
+    ];
     for words in cases {
         let (status, sink) = answer_of(rt.alloc(), words, PARENT_AND_CHILD, 4096, &[], 4096)?;
         assert_eq!(rt; status, 1);
@@ -121,7 +150,14 @@ fn only_replay_is_built(rt: HostRuntime) -> Result<(), Fail> {
 fn a_source_that_fails_at_any_call(rt: HostRuntime) -> Result<(), Fail> {
     // In pieces of 16 the script takes 12 calls, and the one that finds its end is the 13th.
     for call in 1..14u64 {
-        let (status, sink) = answer_of(rt.alloc(), &["replay"], PARENT_AND_CHILD, 16, &[call], 4096)?;
+        let (status, sink) = answer_of(
+            rt.alloc(),
+            &["replay"],
+            PARENT_AND_CHILD,
+            16,
+            &[call],
+            4096,
+        )?;
         assert_eq!(rt; status, 4, "at call {call}");
         assert_eq!(rt; sink.bytes(), b"".as_slice(), "at call {call}");
     }
@@ -141,7 +177,14 @@ fn a_sink_of_any_room(rt: HostRuntime) -> Result<(), Fail> {
     let (status, sink) = answer_of(rt.alloc(), &["replay"], PARENT_AND_CHILD, 4096, &[], 40)?;
     assert_eq!(rt; status, 5);
     assert!(rt; sink.bytes().ends_with(b"a.3: ERR"));
-    let (status, sink) = answer_of(rt.alloc(), &["replay"], PARENT_AND_CHILD, 4096, &[], whole.len())?;
+    let (status, sink) = answer_of(
+        rt.alloc(),
+        &["replay"],
+        PARENT_AND_CHILD,
+        4096,
+        &[],
+        whole.len(),
+    )?;
     assert_eq!(rt; status, 0);
     assert_eq!(rt; sink.bytes(), whole);
     Ok(())
@@ -155,8 +198,37 @@ fn a_script_that_is_too_long(rt: HostRuntime) -> Result<(), Fail> {
         let mut source = MemorySource::new(List::from_vec(blanks), 65536, List::new(rt.alloc()));
         let mut sink = MemorySink::new(rt.alloc(), 4096, List::new(rt.alloc()))?;
         assert_eq!(rt; aqueue(rt.alloc(), &words, &mut source, &mut sink), status);
-        let text = if status == 0 { "schedule\n" } else { "aqueue: script longer than 16777216 bytes\n" };
+        let text = if status == 0 {
+            "schedule\n"
+        } else {
+            "aqueue: script longer than 16777216 bytes\n"
+        };
         assert_eq!(rt; sink.bytes(), text.as_bytes());
+    }
+    Ok(())
+}
+
+#[test]
+fn a_journal_steps_and_goes_on_to_the_end(rt: HostRuntime) -> Result<(), Fail> {
+    for taken in 0..18usize {
+        let script = read_script(rt.alloc(), PARENT_AND_CHILD.as_bytes())
+            .ok()
+            .ok_or("it is a script")?;
+        let mut shared = Shared::new(rt.alloc(), Machine::open(rt.alloc(), script)?);
+        for _ in 0..taken {
+            assert!(rt; shared.machine().enabled(SessNo(0)));
+            shared.advance(SessNo(0))?;
+        }
+        assert_eq!(rt; shared.schedule().len(), taken as u64);
+        assert!(rt; !shared.machine().ended(SessNo(0)));
+        shared.finish()?;
+        assert_eq!(rt; shared.schedule().len(), 18);
+        assert!(rt; shared.machine().ended(SessNo(0)));
+        assert_eq!(rt;
+            shared.text()?.as_slice(),
+            ITS_TEXT.as_bytes(),
+            "behind {taken} steps"
+        );
     }
     Ok(())
 }

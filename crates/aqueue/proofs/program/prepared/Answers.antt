@@ -18,7 +18,7 @@ returns-in-All-clause-cases g c =
     let left = g.S.Source.left c.args.input.now in
     let told = rw c.in-All.is at c.in_ok-bytes.ensures.told in
     let same = IfSome-follows left (λ bs. ToldCases script_limit bs (g.S.Source.left c.read_all.new.input) (All c.in-All.bytes)) (λ bs. c.as_slice.result.now ≡ bs)
-        (λ bs h. c.as_slice.ensures ∙ h.0) told in
+    (λ bs h. c.as_slice.ensures ∙ h.0) told in
     IfOk-follows c.replayed.result _ _ (λ o. outcome_told c.args.words.now left c.as_slice.result.now (g.S.Source.faults c.args.input.now) (g.S.Source.faults c.read_all.new.input) o same)
     (c.replayed.ensures c.args.words.now (g.S.Source.faults c.args.input.now) (g.S.Source.faults c.read_all.new.input) is)
 
