@@ -11,9 +11,7 @@ use Rattle.std.proofs.lemmas.Option.{same_Some, none-some}
 use Rattle.aq_base.specs.Maps.{at, with_at, without}
 use Rattle.aq_base.proofs.Lists.{Contains-none, Contains-cons_cases}
 
--- the keys rise, so that each stands once
-abbrev pub KeysRise : {X : Type 0} → List (ℕ × X) → Type 0
-KeysRise entries = T (is_sorted nat_cmp entries)
+pub use Rattle.aq_base.specs.Maps.{KeysRise}
 
 -- the second map is the first with a value at a number where it had none
 pub record Adds {X : Type 0} (n : ℕ) (x : X) (before after : List (ℕ × X)) : Type 0 where

@@ -304,6 +304,7 @@ step_keeps program st s enforced enabled stands =
 empty_stands : (cat : Catalog) → DatabaseStands cat []
 empty_stands cat =
     record {
+      numbers = tt;
       references = λ f c number row stands in_child no_null. absurd (none-some row stands);
       keys = λ k c m n one other one_stands other_stands one_in other_in same. absurd (none-some one one_stands);
       not_null = λ number row stands t of_table col c. absurd (none-some row stands);

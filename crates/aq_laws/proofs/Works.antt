@@ -478,8 +478,10 @@ finishes cat world work event events rise stands done =
 -- ---- commit
 
 -- with no event left to fire, what the transaction sees stands
-committed_stands : (cat : Catalog) (history : List Database) (rows numbers : ℕ) (writes : Writes) → WorkStands cat history rows numbers writes [] → DatabaseStands cat (view_of history writes)
-committed_stands cat history rows numbers writes work = record { references = references; keys = work.keys; not_null = work.not_null }
+committed_stands : (cat : Catalog) (history : List Database) (rows numbers : ℕ) (writes : Writes) → KeysRise (last_of history)
+    → WorkStands cat history rows numbers writes [] → DatabaseStands cat (view_of history writes)
+committed_stands cat history rows numbers writes rise work =
+    record { numbers = KeysRise-overlay (length history) writes (last_of history) rise; references = references; keys = work.keys; not_null = work.not_null }
   where
     covered : (fk : ℕ) (f : ForeignKey) (row : ℕ) (key : Row) → ReferenceStands cat (view_of history writes) writes [] fk f row key → HasParent f key (view_of history writes)
     covered fk f row key (Covered parent) = parent
@@ -495,7 +497,7 @@ pub commits : (cat : Catalog) (history : List Database) (rows numbers : ℕ) (wr
     → HistoryStands cat (history ++ view_of history writes ∷ []) rows
 commits cat history rows numbers writes stands work =
     let view = view_of history writes in
-    let now = committed_stands cat history rows numbers writes work in
+    let now = committed_stands cat history rows numbers writes stands.rise work in
     let last = last_of-push history view in
     record {
       all = λ db c. ⊎_elim (stands.all db) (λ same. subst (DatabaseStands cat) same now) (Contains-push_cases history view db c);

@@ -102,10 +102,6 @@ last_of (db ∷ next ∷ later) = last_of (next ∷ later)
 abbrev pub last_database : World → Database
 last_database world = last_of world.history
 
--- the number of the last commit
-abbrev pub last_commit : World → ℕ
-last_commit world = length world.history - 1
-
 -- what the transaction sees now, and what its commit would append: the last database with its own versions
 abbrev pub latest_view : World → Work → Database
 latest_view world work = overlay (length world.history) work.writes (last_database world)
