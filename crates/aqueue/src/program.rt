@@ -81,6 +81,7 @@ fn prepared<S: Source>(
 ) -> Result<Outcome, NoMemory>
     ensures cases { IfOk result (OutcomeCases words.now (S.left input.old) (S.faults input.old) (S.faults input.new)) }
     ensures count { S.faults input.old ≤ S.faults input.new }
+    ensures unread { are_replay words.now ≡ false → Keeps (S.left input.old) (S.left input.new) }
 {
     if !is_replay(words) {
         return Ok(Outcome::Writes {
