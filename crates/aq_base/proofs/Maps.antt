@@ -10,7 +10,6 @@ use Rattle.std.proofs.lemmas.Bool.Decides.{nat_tests}
 use Rattle.std.proofs.lemmas.Option.{same_Some, none-some}
 use Rattle.aq_base.specs.Maps.{at, with_at, without}
 use Rattle.aq_base.proofs.Lists.{Contains-none, Contains-cons_cases}
-
 pub use Rattle.aq_base.specs.Maps.{KeysRise}
 
 -- the second map is the first with a value at a number where it had none

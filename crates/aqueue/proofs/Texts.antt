@@ -74,7 +74,7 @@ finished_text script after output e finishes short printed =
     subst (λ s. IsComplete (program_of s) later) goes.same_script (subst (λ (w : Schedule). IsComplete (program_of after.script) w) goes.schedule finishes.complete) in
     let can_run : IsSchedule (program_of script) later = CanRunFrom-by_default (program_of script) (opening (program_of script)) later goes.by_default in
     let tells : TellsSchedule (program_of script).names output later =
-        subst (λ (t : Text). TellsSchedule (program_of script).names t later) (sym out_is) (told (program_of script) (run (program_of script) later) later fit.names) in
+    subst (λ (t : Text). TellsSchedule (program_of script).names t later) (sym out_is) (told (program_of script) (run (program_of script) later) later fit.names) in
     let below : length later < 2 ^ 64 = subst (λ (w : Schedule). length w < 2 ^ 64) goes.schedule short in
     let can : CanBeTold (program_of script).names later = IsSchedule-told script later can_run (omega arith) in
     record {

@@ -104,7 +104,11 @@ fn short_scripts(rt: HostRuntime) -> Result<(), Fail> {
         ("\\session a INSERT INTO t VALUES (1);", 2, NOT_BUILT),
         ("\\session a DELETE FROM t;", 2, NOT_BUILT),
         ("\\session a COMMIT WORK;", 2, NOT_BUILT),
-        ("\\session a BEGIN; ROLLBACK;", 0, "a.1: BEGIN\na.2: ROLLBACK\nschedule a*3\n"),
+        (
+            "\\session a BEGIN; ROLLBACK;",
+            0,
+            "a.1: BEGIN\na.2: ROLLBACK\nschedule a*3\n",
+        ),
         ("-- nothing", 2, NOT_BUILT),
     ];
     for (script, status, text) in cases {
@@ -237,8 +241,14 @@ fn a_journal_steps_and_goes_on_to_the_end(rt: HostRuntime) -> Result<(), Fail> {
 }
 
 // A session over a parent and a child, whose reference has these words behind it.
-fn over_parent_and_child(alloc: Global, timing: &str, statements: &str) -> Result<String, NoMemory> {
-    format!(in alloc; "\\setup CREATE TABLE p (id integer PRIMARY KEY); CREATE TABLE c (pid integer REFERENCES p {timing});\n\\session a {statements}")
+fn over_parent_and_child(
+    alloc: Global,
+    timing: &str,
+    statements: &str,
+) -> Result<String, NoMemory> {
+    format!(in alloc;
+        "\\setup CREATE TABLE p (id integer PRIMARY KEY); CREATE TABLE c (pid integer REFERENCES p {timing});\n\\session a {statements}"
+    )
 }
 
 #[test]
@@ -286,7 +296,8 @@ fn the_check_of_a_row_that_was_deleted_is_skipped(rt: HostRuntime) -> Result<(),
         "DEFERRABLE INITIALLY DEFERRED",
         "BEGIN; INSERT INTO c VALUES (7); DELETE FROM c; COMMIT;",
     )?;
-    let text = "a.1: BEGIN\na.2: INSERT 0 1\na.3: DELETE 1\na.4: COMMIT\ntable p (id)\ntable c (pid)\nschedule a*14\n";
+    let text =
+        "a.1: BEGIN\na.2: INSERT 0 1\na.3: DELETE 1\na.4: COMMIT\ntable p (id)\ntable c (pid)\nschedule a*14\n";
     let (status, sink) = answer_of(rt.alloc(), &["replay"], script.as_str(), 4096, &[], 4096)?;
     assert_eq!(rt; status, 0);
     assert_eq!(rt; sink.bytes(), text.as_bytes());
