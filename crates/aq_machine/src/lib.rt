@@ -3,12 +3,18 @@
 
 mod catalog;
 mod checks;
+mod keys;
 mod machine;
 mod replies;
+mod rounds;
+mod rows;
 mod session;
+mod start;
 mod step;
+mod view;
 mod world;
+mod writes;
 
-pub use machine::Machine;
 pub use aq_xids::SessNo;
+pub use machine::Machine;
 pub use replies::Given;

@@ -8,12 +8,12 @@ ghost use Rattle.aq_machine.specs.Givens.{given_shown};
 ghost use Rattle.aq_machine.specs.Machines.{OpensSessions};
 
 use crate::catalog::{Catalog, catalog_for, statements_for};
-use aq_xids::SessNo;
 use crate::replies::Given;
 use crate::session::Session;
 use crate::step::step_session;
 use crate::world::World;
 use aq_base::{Bound, List, NoMemory, Row, Script, SessionText, TabNo, Table};
+use aq_xids::SessNo;
 use std::alloc::Global;
 use std::marker::Model;
 
