@@ -1,18 +1,16 @@
 -- Look-ups in maps.
-use Rattle.std.proofs.Common.{◌≡◌, ◌≢◌, ℕ, ◌<◌, Bool, true, false, cond, T, ◌==◌, ◌&&◌, ◌⊎◌, inl, inr, ⊎_elim, List, [], ◌∷◌, Some, None, nat_cmp, refl, sym, ◌∙◌, ap, subst, arith}
+use Rattle.std.proofs.Common.{◌≡◌, ◌≢◌, ℕ, ◌<◌, Bool, true, false, cond, not, T, ◌==◌, ◌&&◌, ◌⊎◌, inl, inr, ⊎_elim, List, [], ◌∷◌, Some, None, Contains, nat_cmp, refl, sym, ◌∙◌, ap, subst, arith, eqb-true}
 use Rattle.std.specs.List.{list_any}
-use Rattle.std.specs.Ordering.{is_lt}
+use Rattle.std.specs.Ordering.{is_lt, is_eq}
 use Rattle.std.specs.Cmp.{unsigned_tied}
-use Rattle.std.specs.FinMap.Entries.{is_sorted, below_all, find-put, is_sorted-put}
+use Rattle.std.specs.FinMap.Entries.{is_sorted, below_all, find-put, find-where_key, is_sorted-put, is_sorted-where_key}
 use Rattle.std.proofs.lemmas.Cmp.{nat_cmp_total}
 use Rattle.std.proofs.lemmas.Bool.{false≢true, cases_eq, eq-eqb, ne_eqb, or_parts, or_cases}
 use Rattle.std.proofs.lemmas.Bool.Decides.{nat_tests}
 use Rattle.std.proofs.lemmas.Option.{same_Some, none-some}
-use Rattle.aq_base.specs.Maps.{at, with_at}
-
--- the keys rise, so that each stands once
-abbrev pub KeysRise : {X : Type 0} → List (ℕ × X) → Type 0
-KeysRise entries = T (is_sorted nat_cmp entries)
+use Rattle.aq_base.specs.Maps.{at, with_at, without}
+use Rattle.aq_base.proofs.Lists.{Contains-none, Contains-cons_cases}
+pub use Rattle.aq_base.specs.Maps.{KeysRise}
 
 -- the second map is the first with a value at a number where it had none
 pub record Adds {X : Type 0} (n : ℕ) (x : X) (before after : List (ℕ × X)) : Type 0 where
@@ -48,6 +46,35 @@ pub Adds-cases : {X : Type 0} (n : ℕ) (x : X) (before after : List (ℕ × X))
 Adds-cases n x before after adds q y is =
     ⊎_elim (λ same. inl (same, same_Some y x (sym is ∙ ap (λ k. at k after) same ∙ adds.here))) (λ other. inr (sym (adds.elsewhere q other) ∙ is)) (cases_eq q n)
 
+-- ---- a value less
+
+-- the second map is the first without what it had at a number
+pub record Removes {X : Type 0} (n : ℕ) (before after : List (ℕ × X)) : Type 0 where
+  pub gone : at n after ≡ None
+  pub elsewhere : (q : ℕ) → q ≢ n → at q after ≡ at q before
+
+pub at-without : {X : Type 0} (q n : ℕ) (entries : List (ℕ × X)) → at q (without n entries) ≡ cond (not (q == n)) (at q entries) None
+at-without q n entries =
+    find-where_key nat_cmp (λ k. not (k == n)) q (λ x tied. ap (λ k. not (k == n)) (sym (eqb-true q x (sym (unsigned_tied q x) ∙ ap is_eq tied)))) entries
+
+pub Removes-without : {X : Type 0} (n : ℕ) (entries : List (ℕ × X)) → Removes n entries (without n entries)
+Removes-without n entries =
+    record {
+      gone = at-without n n entries ∙ ap (λ b. cond (not b) (at n entries) None) (eq-eqb n n refl);
+      elsewhere = λ q other. at-without q n entries ∙ ap (λ b. cond (not b) (at q entries) None) (ne_eqb q n other);
+    }
+
+pub KeysRise-without : {X : Type 0} (n : ℕ) (entries : List (ℕ × X)) → KeysRise entries → KeysRise (without n entries)
+KeysRise-without n entries rise = is_sorted-where_key nat_cmp (λ k. not (k == n)) entries rise
+
+-- what is left stands elsewhere, and was there
+pub Removes-left : {X : Type 0} (n : ℕ) (before after : List (ℕ × X)) → Removes n before after → (q : ℕ) (x : X) → at q after ≡ Some x → (q ≢ n) × (at q before ≡ Some x)
+Removes-left n before after removes q x is =
+    let other : q ≢ n = λ same. none-some x (sym removes.gone ∙ ap (λ k. at k after) (sym same) ∙ is) in
+    (other, sym (removes.elsewhere q other) ∙ is)
+
+-- ---- by the first entry
+
 pub at-first : {X : Type 0} (entry : ℕ × X) (entries : List (ℕ × X)) → at entry.0 (entry ∷ entries) ≡ Some entry.1
 at-first entry entries = at-cons entry.0 entry entries ∙ ap (λ b. cond b (Some entry.1) (at entry.0 entries)) (eq-eqb entry.0 entry.0 refl)
 
@@ -76,6 +103,19 @@ at-first_alone entry entries rise = at-below entry.0 entries (parts _ _ rise).0
 
 pub KeysRise-rest : {X : Type 0} (entry : ℕ × X) (entries : List (ℕ × X)) → KeysRise (entry ∷ entries) → KeysRise entries
 KeysRise-rest entry entries rise = (parts _ _ rise).1
+
+-- each entry stands at its key
+pub at-Contains : {X : Type 0} (entry : ℕ × X) (entries : List (ℕ × X)) → KeysRise entries → Contains entries entry → at entry.0 entries ≡ Some entry.1
+at-Contains entry [] rise c = absurd (Contains-none entry c)
+at-Contains entry (first ∷ entries) rise c = by_place (Contains-cons_cases first entry entries c) (λ later. at-Contains entry entries (KeysRise-rest first entries rise) later)
+  where
+    behind : at entry.0 entries ≡ Some entry.1 → at entry.0 (first ∷ entries) ≡ Some entry.1
+    behind stands =
+        at-rest entry.0 first entries (λ same. none-some entry.1 (sym (at-first_alone first entries rise) ∙ ap (λ k. at k entries) (sym same) ∙ stands)) ∙ stands
+
+    by_place : (first ≡ entry) ⊎ Contains entries entry → (Contains entries entry → at entry.0 entries ≡ Some entry.1) → at entry.0 (first ∷ entries) ≡ Some entry.1
+    by_place (inl same) rest = subst (λ e. at e.0 (first ∷ entries) ≡ Some e.1) same (at-first first entries)
+    by_place (inr later) rest = behind (rest later)
 
 -- a value that passes a test stands at some number
 pub record Passing {X : Type 0} (p : X → Bool) (entries : List (ℕ × X)) : Type 0 where

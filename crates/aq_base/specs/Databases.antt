@@ -19,7 +19,3 @@ rows_of table db = filter (λ entry. entry.1.table == table) db
 -- the row is in the table and has the key at the columns
 abbrev pub has_key : ℕ → List ℕ → Row → Stored → Bool
 has_key table cols key stored = stored.table == table && keys_match (values_at cols stored.values) key
-
--- the rows of a table that have the key at the columns
-abbrev pub rows_with_key : ℕ → List ℕ → Row → Database → Database
-rows_with_key table cols key db = filter (λ entry. has_key table cols key entry.1) db

@@ -1,8 +1,10 @@
 -- What every committed database has to satisfy, said of a database alone.
-use Rattle.std.specs.Prelude.{◌≡◌, ℕ, List, Some, true, Contains}
-use Rattle.aq_base.specs.Values.{Row, keys_match, values_at, has_no_null}
+use Rattle.std.specs.Prelude.{◌≡◌, ℕ, List, Some, true, false, Contains, unwrap_or, slice_get}
+use Rattle.aq_base.specs.Values.{Row, keys_match, values_at, has_no_null, is_null}
 use Rattle.aq_base.specs.Maps.{at}
 use Rattle.aq_base.specs.Databases.{Database, Stored, has_key}
+use Rattle.aq_base.specs.declared.value.Value.TheVariants.{Null}
+use Rattle.aq_base.specs.declared.catalog.Table.{Table}
 use Rattle.aq_base.specs.declared.catalog.UniqueKey.{UniqueKey}
 use Rattle.aq_base.specs.declared.catalog.ForeignKey.{ForeignKey}
 
@@ -24,3 +26,9 @@ abbrev pub KeysAreUnique : List UniqueKey → Database → Type 0
 KeysAreUnique keys db =
     (k : UniqueKey) → Contains keys k → (m n : ℕ) (one other : Stored) → at m db ≡ Some one → at n db ≡ Some other → one.table ≡ k.table → other.table ≡ k.table →
     keys_match (values_at k.cols one.values) (values_at k.cols other.values) ≡ true → m ≡ n
+
+-- No row has a null in a column of its table that holds none (PostgreSQL manual, page CREATE TABLE, NOT NULL).
+abbrev pub NotNullHolds : List Table → Database → Type 0
+NotNullHolds tables db =
+    (number : ℕ) (row : Stored) → at number db ≡ Some row → (table : Table) → slice_get tables row.table ≡ Some table →
+    (col : ℕ) → Contains table.not_null col → is_null (unwrap_or (slice_get row.values col) Null) ≡ false

@@ -4,48 +4,51 @@ use Rattle.std.specs.List.{list_all}
 use Rattle.aq_base.specs.Values.{Row}
 use Rattle.aq_base.specs.Names.{Text, is_name, is_short, all_differ, primary_key_name, foreign_key_name}
 use Rattle.aq_base.specs.Catalogs.{Catalog}
-use Rattle.aq_base.specs.Setup.{no_tables, table_number, referred, defines, catalog_of}
+use Rattle.aq_base.specs.Setup.{no_tables, table_number, referred, is_primary, adds_table, adds_keys, defines, catalog_of}
 use Rattle.aq_base.specs.declared.catalog.Table.{Table}
 use Rattle.aq_base.specs.declared.script.ColumnConstraint.{ColumnConstraint}
 use Rattle.aq_base.specs.declared.script.ColumnConstraint.TheVariants.{PrimaryKey, References}
 use Rattle.aq_base.specs.declared.script.ColumnItem.{ColumnItem}
 use Rattle.aq_base.specs.declared.script.Statement.{Statement}
-use Rattle.aq_base.specs.declared.script.Statement.TheVariants.{CreateTable, Insert}
+use Rattle.aq_base.specs.declared.script.Statement.TheVariants.{CreateTable, Insert, Delete, Begin, Commit, Rollback}
 use Rattle.aq_base.specs.declared.script.Placed.{Placed}
 use Rattle.aq_base.specs.declared.script.SessionText.{SessionText}
 use Rattle.aq_base.specs.declared.script.Script.{Script}
 
-abbrev pub is_primary : Option ColumnConstraint → Bool
-is_primary None = false
-is_primary (Some PrimaryKey) = true
-is_primary (Some (References parent)) = false
-
 abbrev pub is_reference : Option ColumnConstraint → Bool
 is_reference None = false
 is_reference (Some PrimaryKey) = false
-is_reference (Some (References parent)) = true
+is_reference (Some (References parent decl)) = true
 
--- a constraint has a name that is short enough, and REFERENCES an earlier table with a primary key
+-- a constraint has a name that is short enough, and REFERENCES a table with a primary key: an earlier one, or the same one
 abbrev pub constraint_fits : Catalog → Text → Text → Option ColumnConstraint → Bool
 constraint_fits cat table col None = true
 constraint_fits cat table col (Some PrimaryKey) = is_short (primary_key_name table)
-constraint_fits cat table col (Some (References parent)) =
+constraint_fits cat table col (Some (References parent decl)) =
     is_name parent && is_some (referred parent cat) && is_short (foreign_key_name table col)
 
 abbrev pub column_fits : Catalog → Text → ColumnItem → Bool
 column_fits cat table item = is_name item.name && constraint_fits cat table item.name item.constraint
 
+-- the table and its keys, behind what was there before
+abbrev pub with_keys : Catalog → Text → List ColumnItem → Catalog
+with_keys cat table items = adds_keys (length cat.tables) table 0 items (adds_table table items cat)
+
 -- the table may be created after what is there: 64 tables, 32 columns and 128 foreign keys at the most, and one primary key
 abbrev pub can_create : Catalog → Text → List ColumnItem → Bool
 can_create cat table items =
     is_name table && is_none (table_number table cat) && nat_lt (length cat.tables) 64 && nat_le (length items) 32
-    && all_differ (map (λ item. item.name) items) && list_all (column_fits cat table) items
+    && all_differ (map (λ item. item.name) items) && list_all (column_fits (with_keys cat table items) table) items
     && nat_le (count_by (λ item. is_primary item.constraint) items) 1
     && nat_le (length cat.fks + count_by (λ item. is_reference item.constraint) items) 128
 
 abbrev pub can_define : Catalog → Statement → Bool
 can_define cat (CreateTable table items) = can_create cat table items
 can_define cat (Insert table rows) = false
+can_define cat (Delete table) = false
+can_define cat Begin = false
+can_define cat Commit = false
+can_define cat Rollback = false
 
 abbrev pub can_set_up : Catalog → List Placed → Bool
 can_set_up cat [] = true
@@ -66,6 +69,10 @@ table_named cat name = on_number cat (table_number name cat)
 abbrev pub can_run : Catalog → Statement → Bool
 can_run cat (CreateTable table items) = false
 can_run cat (Insert table rows) = is_name table && rows_fit (table_named cat table) rows
+can_run cat (Delete table) = is_name table && is_some (table_number table cat)
+can_run cat Begin = true
+can_run cat Commit = true
+can_run cat Rollback = true
 
 abbrev pub session_fits : Catalog → SessionText → Bool
 session_fits cat session = is_name session.name && list_all (λ placed. can_run cat placed.statement) session.statements
@@ -73,6 +80,10 @@ session_fits cat session = is_name session.name && list_all (λ placed. can_run 
 abbrev pub rows_in : Statement → ℕ
 rows_in (CreateTable table items) = 0
 rows_in (Insert table rows) = length rows
+rows_in (Delete table) = 0
+rows_in Begin = 0
+rows_in Commit = 0
+rows_in Rollback = 0
 
 abbrev pub rows_in_session : SessionText → ℕ
 rows_in_session session = sum_by (λ placed. rows_in placed.statement) session.statements

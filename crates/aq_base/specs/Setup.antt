@@ -1,5 +1,5 @@
 -- What the setup statements of a script make, and what its sessions' statements say with numbers for names.
-use Rattle.std.specs.Prelude.{ℕ, ◌+◌, Bool, true, false, ◌==◌, List, [], ◌∷◌, ◌++◌, length, map, Option, Some, None, find, position, unwrap_or, option_map, option_and_then}
+use Rattle.std.specs.Prelude.{ℕ, ◌+◌, Bool, true, false, ◌==◌, List, [], ◌∷◌, ◌++◌, length, map, Option, Some, None, find, position, unwrap_or, option_map, option_and_then, if◌then◌else◌}
 use Rattle.std.specs.List.{filter_map}
 use Rattle.aq_base.specs.Names.{Text, same_text, primary_key_name, foreign_key_name}
 use Rattle.aq_base.specs.Catalogs.{Catalog}
@@ -8,15 +8,16 @@ use Rattle.aq_base.specs.declared.catalog.Table.{Table}
 use Rattle.aq_base.specs.declared.catalog.UniqueKey.{UniqueKey}
 use Rattle.aq_base.specs.declared.catalog.ForeignKey.{ForeignKey}
 use Rattle.aq_base.specs.declared.catalog.Trigger.{Trigger}
-use Rattle.aq_base.specs.declared.catalog.Op.TheVariants.{Insert as On_insert, Update as On_update}
-use Rattle.aq_base.specs.declared.catalog.Does.TheVariants.{Check}
+use Rattle.aq_base.specs.declared.catalog.Decl.{Decl}
+use Rattle.aq_base.specs.declared.catalog.Op.TheVariants.{Insert as On_insert, Update as On_update, Delete as On_delete}
+use Rattle.aq_base.specs.declared.catalog.Does.TheVariants.{Check, Parent}
 use Rattle.aq_base.specs.declared.script.ColumnConstraint.{ColumnConstraint}
 use Rattle.aq_base.specs.declared.script.ColumnConstraint.TheVariants.{PrimaryKey, References}
 use Rattle.aq_base.specs.declared.script.ColumnItem.{ColumnItem}
 use Rattle.aq_base.specs.declared.script.Statement.{Statement}
-use Rattle.aq_base.specs.declared.script.Statement.TheVariants.{CreateTable, Insert}
+use Rattle.aq_base.specs.declared.script.Statement.TheVariants.{CreateTable, Insert, Delete, Begin, Commit, Rollback}
 use Rattle.aq_base.specs.declared.script.Bound.{Bound}
-use Rattle.aq_base.specs.declared.script.Bound.TheVariants.{InsertRows}
+use Rattle.aq_base.specs.declared.script.Bound.TheVariants.{InsertRows, DeleteRows, BeginBlock, CommitBlock, RollbackBlock}
 use Rattle.aq_base.specs.declared.script.Placed.{Placed}
 use Rattle.aq_base.specs.declared.script.SessionText.{SessionText}
 use Rattle.aq_base.specs.declared.script.Script.{Script}
@@ -37,37 +38,50 @@ abbrev pub referred : Text → Catalog → Option (ℕ × List ℕ)
 referred parent cat =
     option_and_then (λ number. option_map (λ cols. (number, cols)) (primary_cols number cat)) (table_number parent cat)
 
+abbrev pub is_primary : Option ColumnConstraint → Bool
+is_primary None = false
+is_primary (Some PrimaryKey) = true
+is_primary (Some (References parent decl)) = false
+
 abbrev pub column_of : ColumnItem → Column
 column_of item = record { name = item.name; kind = item.kind }
 
+-- the columns that hold no null: those of the primary key
+abbrev pub primary_items : ℕ → List ColumnItem → List ℕ
+primary_items col [] = []
+primary_items col (item ∷ items) = if is_primary item.constraint then col ∷ primary_items (col + 1) items else primary_items (col + 1) items
+
 abbrev pub adds_table : Text → List ColumnItem → Catalog → Catalog
-adds_table name items cat = record cat { tables = cat.tables ++ record { name = name; cols = map column_of items } ∷ [] }
+adds_table name items cat =
+    record cat { tables = cat.tables ++ record { name = name; cols = map column_of items; not_null = primary_items 0 items } ∷ [] }
 
 -- the primary key that a column's constraint makes
 abbrev pub adds_key : ℕ → Text → ℕ → Option ColumnConstraint → Catalog → Catalog
 adds_key number table col None cat = cat
 adds_key number table col (Some PrimaryKey) cat =
     record cat { keys = cat.keys ++ record { name = primary_key_name table; table = number; cols = col ∷ [] } ∷ [] }
-adds_key number table col (Some (References parent)) cat = cat
+adds_key number table col (Some (References parent decl)) cat = cat
 
 abbrev pub adds_keys : ℕ → Text → ℕ → List ColumnItem → Catalog → Catalog
 adds_keys number table col [] cat = cat
 adds_keys number table col (item ∷ items) cat = adds_keys number table (col + 1) items (adds_key number table col item.constraint cat)
 
--- the foreign key, and the trigger that checks the rows of its child table
-abbrev pub adds_foreign_key : ℕ → Text → ℕ → Text → Option (ℕ × List ℕ) → Catalog → Catalog
-adds_foreign_key number table col name None cat = cat
-adds_foreign_key number table col name (Some parent) cat =
+-- the foreign key, the trigger that looks for children of the rows of its parent table, and the one that checks the rows of its child table
+abbrev pub adds_foreign_key : ℕ → Text → ℕ → Text → Decl → Option (ℕ × List ℕ) → Catalog → Catalog
+adds_foreign_key number table col name decl None cat = cat
+adds_foreign_key number table col name decl (Some parent) cat =
     record cat {
       fks = cat.fks ++ record { name = foreign_key_name table name; child = number; child_cols = col ∷ []; parent = parent.0; parent_cols = parent.1 } ∷ [];
-      triggers = cat.triggers ++ record { table = number; ops = On_insert ∷ On_update ∷ []; does = Check (length cat.fks) } ∷ [];
+      triggers =
+          cat.triggers ++ record { table = parent.0; ops = On_update ∷ On_delete ∷ []; decl = decl; does = Parent (length cat.fks) }
+          ∷ record { table = number; ops = On_insert ∷ On_update ∷ []; decl = decl; does = Check (length cat.fks) } ∷ [];
     }
 
 -- the foreign key that a column's constraint makes
 abbrev pub adds_reference : ℕ → Text → ℕ → Text → Option ColumnConstraint → Catalog → Catalog
 adds_reference number table col name None cat = cat
 adds_reference number table col name (Some PrimaryKey) cat = cat
-adds_reference number table col name (Some (References parent)) cat = adds_foreign_key number table col name (referred parent cat) cat
+adds_reference number table col name (Some (References parent decl)) cat = adds_foreign_key number table col name decl (referred parent cat) cat
 
 abbrev pub adds_references : ℕ → Text → ℕ → List ColumnItem → Catalog → Catalog
 adds_references number table col [] cat = cat
@@ -82,6 +96,10 @@ creates table items cat =
 abbrev pub defines : Statement → Catalog → Catalog
 defines (CreateTable table items) cat = creates table items cat
 defines (Insert table rows) cat = cat
+defines (Delete table) cat = cat
+defines Begin cat = cat
+defines Commit cat = cat
+defines Rollback cat = cat
 
 abbrev pub setup_from : Catalog → List Placed → Catalog
 setup_from cat [] = cat
@@ -94,6 +112,10 @@ catalog_of script = setup_from no_tables script.setup
 abbrev pub bound : Catalog → Statement → Option Bound
 bound cat (CreateTable table items) = None
 bound cat (Insert table rows) = option_map (λ number. InsertRows number rows) (table_number table cat)
+bound cat (Delete table) = option_map DeleteRows (table_number table cat)
+bound cat Begin = Some BeginBlock
+bound cat Commit = Some CommitBlock
+bound cat Rollback = Some RollbackBlock
 
 abbrev pub bound_statements : Catalog → SessionText → List Bound
 bound_statements cat session = filter_map (λ placed. bound cat placed.statement) session.statements

@@ -10,11 +10,12 @@ pub struct Column {
     pub kind: Kind,
 }
 
-/// A table: its name and its columns in order.
+/// A table: its name, its columns in order, and those that hold no null.
 #[derive(Debug, Drop)]
 pub struct Table {
     pub name: TextVal,
     pub cols: List<Column>,
+    pub not_null: List<ColNo>,
 }
 
 /// A unique key: no two rows of the table agree on these columns (PostgreSQL manual, page CREATE TABLE, PRIMARY KEY).
@@ -49,12 +50,22 @@ pub enum Op {
 pub enum Does {
     /// Looks for the parent of the child row.
     Check(FkNo),
+    /// Looks whether a child row still refers to the parent row that went.
+    Parent(FkNo),
 }
 
-/// A trigger: its table, the changes that queue its events, and what an event does.
+/// When the events of a constraint fire (PostgreSQL manual, page CREATE TABLE, DEFERRABLE).
+#[derive(Clone, Copy, Debug, PartialEq, Eq)]
+pub struct Decl {
+    pub deferrable: bool,
+    pub deferred: bool,
+}
+
+/// A trigger: its table, the changes that queue its events, when they fire, and what an event does.
 #[derive(Debug, Drop)]
 pub struct Trigger {
     pub table: TabNo,
     pub ops: List<Op>,
+    pub decl: Decl,
     pub does: Does,
 }

@@ -11,7 +11,7 @@ mod script;
 mod text;
 mod value;
 
-pub use catalog::{Column, Does, ForeignKey, Op, Table, Trigger, UniqueKey};
+pub use catalog::{Column, Decl, Does, ForeignKey, Op, Table, Trigger, UniqueKey};
 pub use copies::Copies;
 pub use fault::{Code, SqlFault};
 pub use list::List;

@@ -19,12 +19,14 @@ impl Model for TabNo {
 }
 
 impl TabNo {
+    /// The table with this number.
     pub fn new(number: u16) -> TabNo
         ensures { result ≡ number }
     {
         TabNo { number }
     }
 
+    /// The number.
     pub fn get(self) -> u16
         ensures { result ≡ self }
     {
@@ -49,12 +51,14 @@ impl Model for ColNo {
 }
 
 impl ColNo {
+    /// The column with this number.
     pub fn new(number: u16) -> ColNo
         ensures { result ≡ number }
     {
         ColNo { number }
     }
 
+    /// The number.
     pub fn get(self) -> u16
         ensures { result ≡ self }
     {
@@ -79,12 +83,14 @@ impl Model for FkNo {
 }
 
 impl FkNo {
+    /// The foreign key with this number.
     pub fn new(number: u16) -> FkNo
         ensures { result ≡ number }
     {
         FkNo { number }
     }
 
+    /// The number.
     pub fn get(self) -> u16
         ensures { result ≡ self }
     {
@@ -109,12 +115,14 @@ impl Model for RowNo {
 }
 
 impl RowNo {
+    /// The row with this number.
     pub fn new(number: u64) -> RowNo
         ensures { result ≡ number }
     {
         RowNo { number }
     }
 
+    /// The number.
     pub fn get(self) -> u64
         ensures { result ≡ self }
     {

@@ -6,6 +6,8 @@ use crate::text::TextVal;
 pub enum ReplyLine {
     /// The tag of a statement that succeeded, as `INSERT 0 1`.
     Tag(TextVal),
+    /// A warning with its code and text.
+    Warning { code: Code, text: TextVal },
     /// An error with its code and text.
     Error { code: Code, text: TextVal },
     /// The detail of the error before it.

@@ -1,3 +1,4 @@
+use crate::catalog::Decl;
 use crate::list::List;
 use crate::numbers::TabNo;
 use crate::text::TextVal;
@@ -16,7 +17,7 @@ pub enum ColumnConstraint {
     /// `PRIMARY KEY`
     PrimaryKey,
     /// `REFERENCES table`: the column refers to that table's primary key.
-    References { table: TextVal },
+    References { table: TextVal, decl: Decl },
 }
 
 /// One item of a CREATE TABLE: a column with its constraint.
@@ -40,6 +41,16 @@ pub enum Statement {
         table: TextVal,
         rows: List<Row>,
     },
+    /// `DELETE FROM table`
+    Delete {
+        table: TextVal,
+    },
+    /// `BEGIN`
+    Begin,
+    /// `COMMIT`
+    Commit,
+    /// `ROLLBACK`
+    Rollback,
 }
 
 /// A session's statement with numbers in place of names.
@@ -47,6 +58,11 @@ pub enum Statement {
 pub enum Bound {
     /// INSERT with the rows of its VALUES.
     InsertRows { table: TabNo, rows: List<Row> },
+    /// DELETE of all rows.
+    DeleteRows { table: TabNo },
+    BeginBlock,
+    CommitBlock,
+    RollbackBlock,
 }
 
 /// A statement with the line on which it begins, counted from 1.

@@ -52,7 +52,9 @@ impl Copies for Value {
 }
 
 impl Default for Value {
-    fn default() -> Value {
+    fn default() -> Value
+        ensures { result ≡ Null }
+    {
         Value::Null
     }
 }

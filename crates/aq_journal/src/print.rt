@@ -6,7 +6,7 @@ ghost use Rattle.std.specs.Fmt.{decimal, signed_decimal};
 ghost use Rattle.aq_run.specs.Replies.{joined};
 ghost use Rattle.aq_run.specs.Texts.{line, doubled_quote, value_text, row_text, table_text, reply_text, run_item};
 
-use aq_base::{Column, NoMemory, ReplyLine, Row, Table, Value};
+use aq_base::{Code, Column, NoMemory, ReplyLine, Row, Table, TextVal, Value};
 use itoa::Buffer;
 
 fn push_number(out: &mut Vec<u8>, n: u64) -> Result<(), NoMemory>
@@ -143,17 +143,27 @@ pub fn push_table(out: &mut Vec<u8>, table: &Table, rows: &[Row]) -> Result<(), 
     push_rows(out, rows)
 }
 
+fn push_coded(out: &mut Vec<u8>, code: &Code, text: &TextVal) -> Result<(), NoMemory>
+    ensures { OnOk result (out.new.items ≡ out.old.items ++ (code.now.0 ++ codes " " ++ text.now)) }
+{
+    out.extend_from_slice(&code.0)?;
+    out.push(b' ')?;
+    out.extend_from_slice(text.bytes())
+}
+
 /// A line of a reply, without what stands before it.
 pub fn push_reply(out: &mut Vec<u8>, reply: &ReplyLine) -> Result<(), NoMemory>
     ensures { OnOk result (out.new.items ≡ out.old.items ++ reply_text reply.now) }
 {
     match reply {
         ReplyLine::Tag(text) => out.extend_from_slice(text.bytes()),
+        ReplyLine::Warning { code, text } => {
+            out.extend_from_slice(b"WARNING ")?;
+            push_coded(out, code, text)
+        }
         ReplyLine::Error { code, text } => {
             out.extend_from_slice(b"ERROR ")?;
-            out.extend_from_slice(&code.0)?;
-            out.push(b' ')?;
-            out.extend_from_slice(text.bytes())
+            push_coded(out, code, text)
         }
         ReplyLine::Detail(text) => {
             out.extend_from_slice(b"DETAIL ")?;

@@ -1,6 +1,6 @@
 //! A machine with the schedule that it has run.
 
-ghost use Rattle.std.specs.Prelude.{◌≡◌, ℕ, [], ◌∷◌, ◌++◌, true, false, IfOk, OnOk, OnErr, MatchOption};
+ghost use Rattle.std.specs.Prelude.{◌≡◌, ℕ, ◌<◌, ◌^◌, length, [], ◌∷◌, ◌++◌, true, false, IfOk, OnOk, OnErr, MatchOption};
 ghost use Rattle.aq_base.specs.Setup.{program_of};
 ghost use Rattle.aq_run.specs.States.{opening};
 ghost use Rattle.aq_run.specs.Steps.{step, is_enabled};
@@ -102,7 +102,8 @@ impl Shared {
 
     /// The text of the run. The error is want of memory.
     pub fn text(&self) -> Result<List<u8>, NoMemory>
-        ensures { IfOk result (λ output. output ≡ run_text (program_of self.now.script) self.now.schedule) }
+        ensures text { IfOk result (λ output. output ≡ run_text (program_of self.now.script) self.now.schedule) }
+        ensures short { length self.now.schedule < 2 ^ 64 }
     {
         text(self.alloc, &self.machine, self.schedule.as_slice())
     }

@@ -1,17 +1,21 @@
--- Every committed database keeps the references and the unique keys.
+-- Every committed database keeps the references, the unique keys and the columns without null.
 use Rattle.std.specs.Prelude.{◌≤◌, length, Contains}
 use Rattle.aq_base.specs.Catalogs.{Catalog}
+use Rattle.aq_base.specs.Maps.{KeysRise}
 use Rattle.aq_base.specs.Databases.{Database}
-use Rattle.aq_base.specs.References.{ReferencesHold, KeysAreUnique}
+use Rattle.aq_base.specs.References.{ReferencesHold, KeysAreUnique, NotNullHolds}
 use Rattle.aq_base.specs.Setup.{Program, program_of}
 use Rattle.aq_base.specs.declared.script.Script.{Script}
 use Rattle.aq_run.specs.States.{State}
 use Rattle.aq_run.specs.Runs.{Schedule, IsSchedule, run}
 
--- each reference of the database has its parent, and no unique key stands twice
+-- no row number stands twice, each reference of the database has its parent, no unique key stands twice, and no null stands in
+-- a column that holds none
 pub record DatabaseStands (cat : Catalog) (db : Database) : Type 0 where
+  pub numbers : KeysRise db
   pub references : ReferencesHold cat.fks db
   pub keys : KeysAreUnique cat.keys db
+  pub not_null : NotNullHolds cat.tables db
 
 -- it is so of every database of the history
 abbrev pub DatabasesStand : Program → State → Type 0

@@ -1,6 +1,6 @@
 -- A state with one session at the most.
-use Rattle.std.proofs.Common.{◌≡◌, ℕ, zero, suc, ◌≤◌, true, List, [], ◌∷◌, length, slice_get, ap, arith}
-use Rattle.std.proofs.lemmas.Bool.{leb-true, ltb-true, and_parts}
+use Rattle.std.proofs.Common.{◌≡◌, ℕ, zero, suc, ◌≤◌, ◌<◌, true, false, not, List, [], ◌∷◌, length, slice_get, ap, arith}
+use Rattle.std.proofs.lemmas.Bool.{leb-true, ltb-true, and_parts, not-true}
 use Rattle.aq_base.specs.Catalogs.{Catalog}
 use Rattle.aq_base.specs.Scripts.{fits_first_language}
 use Rattle.aq_base.specs.Setup.{catalog_of, program_of}
@@ -24,3 +24,8 @@ step-one script catalog statements world after session left zero is are enabled 
     let st : State = record { world = world; sessions = session ∷ [] } in
     rw are (rw (← is) (ap (with_scene st 0) goes))
 step-one script catalog statements world after session left (suc s) is are enabled goes = absurd (omega (arith, ltb-true (suc s) 1 (and_parts _ _ enabled).0))
+
+-- a session that may step has not ended
+pub enabled-live : (world : World) (session : Session) (s : ℕ) → is_enabled (record { world = world; sessions = session ∷ [] }) s ≡ true → session.ended ≡ false
+enabled-live world session zero enabled = not-true session.ended (and_parts true (not session.ended) enabled).1
+enabled-live world session (suc s) enabled = let within : suc s < 1 = ltb-true (suc s) 1 (and_parts _ _ enabled).0 in absurd (omega (arith, within))

@@ -14,7 +14,7 @@ use Rattle.aq_base.specs.declared.script.Placed.{Placed}
 adds_key-fks : (number : ℕ) (table : Text) (col : ℕ) (constraint : Option ColumnConstraint) (cat : Catalog) → (adds_key number table col constraint cat).fks ≡ cat.fks
 adds_key-fks number table col None cat = refl
 adds_key-fks number table col (Some PrimaryKey) cat = refl
-adds_key-fks number table col (Some (References parent)) cat = refl
+adds_key-fks number table col (Some (References parent decl)) cat = refl
 
 adds_keys-fks : (number : ℕ) (table : Text) (col : ℕ) (items : List ColumnItem) (cat : Catalog) → (adds_keys number table col items cat).fks ≡ cat.fks
 adds_keys-fks number table col [] cat = refl

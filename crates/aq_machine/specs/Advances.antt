@@ -1,62 +1,78 @@
 -- What a step of a statement in progress comes to.
-use Rattle.std.specs.Prelude.{◌≡◌, ℕ, ◌+◌, List, [], ◌∷◌, ◌++◌, Some, None}
-use Rattle.std.specs.List.{AllByRecursion}
+use Rattle.std.specs.Prelude.{◌≡◌, ℕ, ◌+◌, List, [], ◌∷◌, ◌++◌, map, Option, Some, None, option_map}
 use Rattle.aq_base.specs.Values.{Row}
+use Rattle.aq_base.specs.Maps.{with_at}
 use Rattle.aq_base.specs.Catalogs.{Catalog}
-use Rattle.aq_run.specs.States.{Target, Session, World, last_database, latest_view}
-use Rattle.aq_run.specs.States.Task.{Rows, Committing}
-use Rattle.aq_run.specs.States.Target.{New_row}
-use Rattle.aq_run.specs.States.Operation.{Inserting}
-use Rattle.aq_run.specs.Effects.{on_top, with_events}
-use Rattle.aq_run.specs.Steps.Plan.{Fails}
-use Rattle.aq_machine.specs.Orders.{Rises, keys_of}
-use Rattle.aq_machine.specs.Shown.{answer_shown}
-use Rattle.aq_machine.specs.Found.{fault_shown}
-use Rattle.aq_machine.specs.Runnings.{InProgress, with_running, scene, carried_out, running_plan}
-use Rattle.aq_outcomes.specs.Rows.{insert_fault, insert_events}
-use Rattle.aq_machine.specs.declared.step.Planned.{Planned}
-use Rattle.aq_machine.specs.declared.step.Planned.TheVariants.{Inserts, Refused as Refuses}
-use Rattle.aq_machine.specs.declared.step.Change.{Change}
-use Rattle.aq_machine.specs.declared.step.Advanced.{Advanced}
-use Rattle.aq_machine.specs.declared.step.Advanced.TheVariants.{Further, Refused, Commits}
+use Rattle.aq_base.specs.Works.{Event, Work}
+use Rattle.aq_base.specs.Writes.{Writes}
+use Rattle.aq_base.specs.declared.catalog.Op.{Op}
+use Rattle.aq_run.specs.States.{Answer, Session, World, latest_view}
+use Rattle.aq_run.specs.States.Task.{Rounds, Committing}
+use Rattle.aq_run.specs.Effects.Effect.{Commits as Commits_all, Goes_on, Replies}
+use Rattle.aq_run.specs.Replies.{answer_lines}
+use Rattle.aq_run.specs.Steps.{Plan, event_plan, close_plan}
+use Rattle.aq_run.specs.Steps.Plan.{Does_all, Fails}
+use Rattle.aq_outcomes.specs.Rows.{insert_fault, insert_events, queued_by}
+use Rattle.aq_machine.specs.Found.{fault_shown, event_done}
+use Rattle.aq_machine.specs.Shown.{Held, InProgress, answer_shown, in_level}
+use Rattle.aq_machine.specs.Versions.{write_shown}
+use Rattle.aq_machine.specs.Runnings.{with_progress, scene, carried_out, progress_plan, IsInOrder, IsNoCommit}
+use Rattle.aq_machine.specs.declared.checks.Fault.{Fault}
+use Rattle.aq_machine.specs.declared.rounds.Advanced.{Advanced}
+use Rattle.aq_machine.specs.declared.rounds.Advanced.TheVariants.{Further, Refused, Closes, Commits}
+use Rattle.aq_machine.specs.declared.writes.Write.{Write}
 
--- the row numbers that the statement sees rise, up to the last number that was drawn
-abbrev pub IsInOrder : World → InProgress → Type 0
-IsInOrder world running = Rises 0 (keys_of (last_database world) running.transaction.work.writes) world.rows
+-- the work of a transaction, by what it has written alone
+abbrev pub written : Writes → Work
+written writes = record { writes = writes; deferred = []; opened = [] }
 
--- in any session, what the statement plans was carried out, and the statement is still in progress
+-- in any session, what the transaction plans was carried out, and it is still in progress
 abbrev pub GoesFurther : Catalog → World → InProgress → World → InProgress → Type 0
-GoesFurther cat world running after left =
-    (s : ℕ) (me : Session) → scene after (with_running left me) ≡ carried_out cat s (running_plan cat world running me) (scene world (with_running running me))
+GoesFurther cat world before after left =
+    (s : ℕ) (me : Session) → scene after (with_progress left me) ≡ carried_out cat s (progress_plan cat world before me) (scene world (with_progress before me))
+
+-- the transaction commits, and then the answer is given
+abbrev pub commits_then : Answer → Plan
+commits_then answer = Does_all (Commits_all ∷ Goes_on [] ∷ Replies (answer_lines answer) ∷ [])
 
 abbrev pub Advances : Catalog → World → InProgress → World → InProgress → Advanced → Type 0
-Advances cat world running after left Further = GoesFurther cat world running after left × IsInOrder after left
-Advances cat world running after left (Refused fault) =
-    (after ≡ world) × (left ≡ running) × ((me : Session) → running_plan cat world running me ≡ Fails (fault_shown fault))
-Advances cat world running after left (Commits answer) = (after ≡ world) × (left ≡ running) × (running.task ≡ Committing (answer_shown answer))
+Advances cat world before after left Further =
+    GoesFurther cat world before after left × IsInOrder after left × (IsNoCommit before.tasks → IsNoCommit left.tasks)
+Advances cat world before after left (Refused fault) =
+    (after ≡ world) × (left ≡ before) × ((me : Session) → progress_plan cat world before me ≡ Fails [] (fault_shown fault))
+Advances cat world before after left (Closes answer) =
+    (after ≡ world) × (left ≡ before) × ((held : Held) × (before ≡ in_level held (Rounds (answer_shown answer)))) × ((me : Session) → progress_plan cat world before me ≡ close_plan me.block (answer_shown answer) [])
+Advances cat world before after left (Commits answer) =
+    (after ≡ world) × (left ≡ before) × (before.tasks ≡ Committing (answer_shown answer) ∷ []) × ((me : Session) → progress_plan cat world before me ≡ commits_then (answer_shown answer))
 
--- the statement has its next row among its writes, and the row's events in its level's list
-abbrev pub InsertsRow : Change → InProgress → InProgress → Type 0
-InsertsRow change running left =
-    (values : Row) (later : List Target) (done : ℕ) → running.task ≡ Rows (Inserting change.table) (New_row values ∷ later) done
-    → left ≡ record {
-      transaction = record {
-        work = record {
-          writes = running.transaction.work.writes ++ (change.row, record { table = change.table; image = values; number = change.write }) ∷ [];
-          opened = on_top (with_events change.events.items) running.transaction.work.opened;
-        };
-      };
-      task = Rows (Inserting change.table) later (done + 1);
-    }
+-- what is left when the first event of the round was looked at
+abbrev pub after_event : Held → List Event → Option Fault → Held
+after_event before rest None = record before { round = rest }
+after_event before rest (Some fault) = before
 
--- no event is left of the round in progress
-abbrev pub HasNoRound : InProgress → Type 0
-HasNoRound running = AllByRecursion (λ level. level.round ≡ []) running.transaction.work.opened
+-- the first event of the round is done, or refused
+abbrev pub FiresFirst : Catalog → World → Held → Held → Option Fault → Type 0
+FiresFirst cat world before after found =
+    (event : Event) (rest : List Event) → before.round ≡ event ∷ rest →
+    (event_plan cat world (written before.writes) event ≡ event_done (option_map fault_shown found)) × (after ≡ after_event before rest found)
 
--- a new row is refused, or it may be inserted with the next numbers and the events that it queues
-abbrev pub PlansRow : Catalog → World → InProgress → ℕ → Row → Planned → Type 0
-PlansRow cat world running table values (Refuses fault) = insert_fault cat (latest_view world running.transaction.work) table values ≡ Some (fault_shown fault)
-PlansRow cat world running table values (Inserts change) =
-    (insert_fault cat (latest_view world running.transaction.work) table values ≡ None)
-    × (change ≡ record change { table = table; row = world.rows + 1; write = world.writes + 1 })
-    × (change.events.items ≡ insert_events cat table (world.rows + 1) (world.writes + 1) values)
+-- the events that a change queues
+abbrev pub change_events : Catalog → Op → Option Row → Write → List Event
+change_events cat op old write =
+    map (λ trigger. record { trigger = trigger; row = write.row; write = write.number; old = old; new = write.image }) (queued_by cat write.table op)
+
+-- a change of a row: its version is among the writes, and its events are in the level's list
+abbrev pub changed : Catalog → Op → Option Row → Write → Held → Held
+changed cat op old write held = record held { writes = with_at write.row (write_shown write) held.writes; queued = held.queued ++ change_events cat op old write }
+
+-- a new row is refused, or it has the next numbers, is among the writes, and its events are in the level's list
+abbrev pub InsertsRow : Catalog → World → Held → ℕ → Row → World → Held → Option Fault → Type 0
+InsertsRow cat world held table values after left None =
+    (insert_fault cat (latest_view world (written held.writes)) table values ≡ None)
+    × (after ≡ record world { rows = world.rows + 1; writes = world.writes + 1 })
+    × (left ≡ record held {
+      writes = with_at (world.rows + 1) (record { table = table; image = Some values; number = world.writes + 1 }) held.writes;
+      queued = held.queued ++ insert_events cat table (world.rows + 1) (world.writes + 1) values;
+    })
+InsertsRow cat world held table values after left (Some fault) =
+    (insert_fault cat (latest_view world (written held.writes)) table values ≡ Some (fault_shown fault)) × (after ≡ world) × (left ≡ held)

@@ -1,6 +1,7 @@
 pub mod Givens
 pub mod Versions
 pub mod Shown
+pub mod Starts
 pub mod Runnings
 pub mod Advances
 pub mod Machines

@@ -6,16 +6,16 @@ use Rattle.aq_base.specs.Setup.{catalog_of, program_of}
 use Rattle.aq_base.specs.declared.script.Script.{Script}
 use Rattle.aq_base.specs.declared.script.Bound.{Bound}
 use Rattle.aq_run.specs.States.{World, Session, at_start}
-use Rattle.aq_machine.specs.Orders.{IsOrderly}
+use Rattle.aq_machine.specs.Runnings.{Stands}
 
-abbrev pub IsOrderlyIn : World → Option Session → Type 0
-IsOrderlyIn world None = Unit {0}
-IsOrderlyIn world (Some session) = IsOrderly world session
+abbrev pub StandsIn : World → Option Session → Type 0
+StandsIn world None = Unit {0}
+StandsIn world (Some session) = Stands world session
 
 pub record IsMachine (script : Script) (catalog : Catalog) (statements : List Bound) (world : World) (session : Option Session) : Type 0 where
   pub catalog_is : catalog ≡ catalog_of script
   pub statements_are : (program_of script).sessions ≡ map (λ _. statements) (option_to_list session)
-  pub orderly : IsOrderlyIn world session
+  pub stands : StandsIn world session
 
 -- the statements and the session that a script's sessions make
 pub record OpensSessions (sessions : List (List Bound)) (statements : List Bound) (session : Option Session) : Type 0 where

@@ -1,22 +1,29 @@
--- Row numbers are drawn from one counter, so they rise along the history and then along a transaction's writes.
-use Rattle.std.specs.Prelude.{ℕ, ◌<◌, ◌≤◌, List, [], ◌∷◌, ◌++◌, map, Option, Some, None}
-use Rattle.aq_base.specs.Databases.{Database}
-use Rattle.aq_base.specs.Writes.{Writes}
+-- Row numbers are drawn from one counter: they rise along a database and along a transaction's writes.
+use Rattle.std.specs.Prelude.{◌≡◌, ℕ, ◌<◌, ◌≤◌, true, T, [], Option, Some, None, is_some, length}
+use Rattle.std.specs.Ordering.{nat_cmp}
+use Rattle.std.specs.FinMap.Entries.{is_sorted}
+use Rattle.aq_base.specs.Maps.{at}
+use Rattle.aq_base.specs.Databases.{Database, Stored}
+use Rattle.aq_base.specs.Writes.{Write, Writes, overlay}
 use Rattle.aq_run.specs.States.{World, Session, Transaction, last_database}
 
--- the numbers rise, each above the first bound and none above the second
-abbrev pub Rises : ℕ → List ℕ → ℕ → Type 0
-Rises low [] high = low ≤ high
-Rises low (n ∷ ns) high = (low < n) × Rises n ns high
+-- The rows of a database and those that a transaction wrote stand in the order of their numbers, none above the last one drawn.
+-- A row that the transaction has in a new version is above those of the database.
+pub record IsOrdered (db : Database) (writes : Writes) (rows : ℕ) : Type 0 where
+  pub rows_rise : T (is_sorted nat_cmp db)
+  pub writes_rise : T (is_sorted nat_cmp writes)
+  pub rows_drawn : (n : ℕ) (stored : Stored) → at n db ≡ Some stored → n ≤ rows
+  pub writes_drawn : (n : ℕ) (write : Write) → at n writes ≡ Some write → n ≤ rows
+  pub new_above : (n : ℕ) (write : Write) → at n writes ≡ Some write → is_some write.image ≡ true → (m : ℕ) (stored : Stored) → at m db ≡ Some stored → m < n
+
+-- the last database with the writes
+abbrev pub view_with : World → Writes → Database
+view_with world writes = overlay (length world.history) writes (last_database world)
 
 abbrev pub writes_of : Option Transaction → Writes
 writes_of None = []
 writes_of (Some t) = t.work.writes
 
--- the numbers of the rows of a database, and then of writes
-abbrev pub keys_of : Database → Writes → List ℕ
-keys_of db writes = map (λ entry. entry.0) db ++ map (λ entry. entry.0) writes
-
--- the numbers of the rows that a session sees rise, up to the last number that was drawn
+-- so it is with the last database and what a session has written
 abbrev pub IsOrderly : World → Session → Type 0
-IsOrderly world me = Rises 0 (keys_of (last_database world) (writes_of me.transaction)) world.rows
+IsOrderly world me = IsOrdered (last_database world) (writes_of me.transaction) world.rows

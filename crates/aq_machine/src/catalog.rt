@@ -1,11 +1,12 @@
 ghost use Rattle.std.specs.Prelude.{◌≡◌, ◌+◌, ◌<◌, ◌≤◌, true, ◌==◌, Some, map, length, position, find, option_copied, IfSome, OnOk, IfOk};
 ghost use Rattle.aq_base.specs.Names.{same_text, primary_key_name, foreign_key_name};
-ghost use Rattle.aq_base.specs.Setup.{no_tables, table_number, primary_cols, referred, column_of, adds_table, adds_key, adds_keys, adds_foreign_key, adds_reference, adds_references, creates, defines, catalog_of, bound, bound_statements};
+ghost use Rattle.aq_base.specs.Setup.{no_tables, table_number, primary_cols, referred, column_of, adds_table, adds_key, adds_keys, adds_foreign_key, adds_reference, adds_references, primary_items, is_primary, creates, defines, catalog_of, bound, bound_statements};
+ghost use Rattle.aq_base.specs.declared.script.Statement.TheVariants.{Insert, Delete};
 ghost use Rattle.aq_base.specs.Scripts.{can_create, can_define, can_set_up};
 
 use aq_base::{
-    Bound, ColNo, Column, ColumnConstraint, ColumnItem, Copies, Does, FkNo, ForeignKey, List,
-    NoMemory, Op, Script, SessionText, Statement, TabNo, Table, TextVal, Trigger, UniqueKey,
+    Bound, ColNo, Column, ColumnConstraint, ColumnItem, Copies, Decl, Does, FkNo, ForeignKey, List,
+    NoMemory, Op, Row, Script, SessionText, Statement, TabNo, Table, TextVal, Trigger, UniqueKey,
 };
 use std::alloc::Global;
 use std::marker::Model;
@@ -68,6 +69,26 @@ fn columns_of(alloc: Global, items: &[ColumnItem]) -> Result<List<Column>, NoMem
             name: item.name.copy()?,
             kind: item.kind,
         })?;
+    }
+    Ok(cols)
+}
+
+fn is_primary_key(constraint: &Option<ColumnConstraint>) -> bool
+    ensures { result ≡ is_primary constraint.now }
+{
+    matches!(constraint, Some(ColumnConstraint::PrimaryKey))
+}
+
+/// The columns that hold no null: those of the primary key.
+fn not_null_of(alloc: Global, items: &[ColumnItem]) -> Result<List<ColNo>, NoMemory>
+    requires { length items.now ≤ 32 }
+    ensures { IfOk result (λ cols. cols ≡ primary_items 0 items.now) }
+{
+    let mut cols = List::new(alloc);
+    'items: for (col, item) in items.iter().enumerate() {
+        if is_primary_key(&item.constraint) {
+            cols.push(ColNo::new(col as u16))?;
+        }
     }
     Ok(cols)
 }
@@ -190,24 +211,32 @@ impl Catalog {
         table: &TextVal,
         col: ColNo,
         name: &TextVal,
+        decl: Decl,
         parent: (TabNo, List<ColNo>),
     ) -> Result<(), NoMemory>
         requires { length self.old.fks < 65535 }
-        ensures { OnOk result (self.new ≡ adds_foreign_key number table.now col name.now (Some parent) self.old) }
+        ensures { OnOk result (self.new ≡ adds_foreign_key number table.now col name.now decl (Some parent) self.old) }
     {
         let fk = FkNo::new(self.fks.len() as u16);
         let (parent, parent_cols) = parent;
+        self.triggers.push(Trigger {
+            table: parent,
+            ops: List::from_vec(Vec::from_slice(alloc, &[Op::Update, Op::Delete])?),
+            decl,
+            does: Does::Parent(fk),
+        })?;
+        self.triggers.push(Trigger {
+            table: number,
+            ops: List::from_vec(Vec::from_slice(alloc, &[Op::Insert, Op::Update])?),
+            decl,
+            does: Does::Check(fk),
+        })?;
         self.fks.push(ForeignKey {
             name: name_of_foreign_key(alloc, table, name)?,
             child: number,
             child_cols: List::from_vec(Vec::from_slice(alloc, &[col])?),
             parent,
             parent_cols,
-        })?;
-        self.triggers.push(Trigger {
-            table: number,
-            ops: List::from_vec(Vec::from_slice(alloc, &[Op::Insert, Op::Update])?),
-            does: Does::Check(fk),
         })
     }
 
@@ -224,12 +253,18 @@ impl Catalog {
         ensures added { OnOk result (self.new ≡ adds_reference number table.now col name.now constraint.now self.old) }
         ensures count { OnOk result (length self.new.fks ≤ length self.old.fks + 1) }
     {
-        let Some(ColumnConstraint::References { table: parent }) = constraint else {
+        let Some(
+            ColumnConstraint::References {
+                table: parent,
+                decl,
+            },
+        ) = constraint
+        else {
             return Ok(());
         };
         match self.referred(alloc, parent)? {
             None => Ok(()),
-            Some(parent) => self.add_foreign_key(alloc, number, table, col, name, parent),
+            Some(parent) => self.add_foreign_key(alloc, number, table, col, name, *decl, parent),
         }
     }
 
@@ -263,12 +298,14 @@ impl Catalog {
         table: &TextVal,
         items: &[ColumnItem],
     ) -> Result<(), NoMemory>
-        requires { length self.old.tables < 64 }
+        requires room { length self.old.tables < 64 }
+        requires items { length items.now ≤ 32 }
         ensures { OnOk result (self.new ≡ adds_table table.now items.now self.old) }
     {
         self.tables.push(Table {
             name: table.copy()?,
             cols: columns_of(alloc, items)?,
+            not_null: not_null_of(alloc, items)?,
         })
     }
 
@@ -293,7 +330,11 @@ impl Catalog {
     {
         match statement {
             Statement::CreateTable { table, items } => self.create(alloc, table, items.as_slice()),
-            Statement::Insert { .. } => Ok(()),
+            Statement::Insert { .. }
+            | Statement::Delete { .. }
+            | Statement::Begin
+            | Statement::Commit
+            | Statement::Rollback => Ok(()),
         }
     }
 }
@@ -310,22 +351,41 @@ pub(crate) fn catalog_for(alloc: Global, script: &Script) -> Result<Catalog, NoM
     Ok(catalog)
 }
 
-fn bound_of(
-    alloc: Global,
+fn bound_insert(
     catalog: &Catalog,
-    statement: &Statement,
+    table: &TextVal,
+    rows: &List<Row>,
 ) -> Result<Option<Bound>, NoMemory>
-    ensures { IfOk result (λ found. found ≡ bound catalog.now statement.now) }
+    ensures { IfOk result (λ found. found ≡ bound catalog.now (Insert table.now rows.now)) }
 {
-    let Statement::Insert { table, rows } = statement else {
-        return Ok(None);
-    };
     match catalog.table_number(table) {
         None => Ok(None),
         Some(table) => Ok(Some(Bound::InsertRows {
             table,
             rows: rows.copy()?,
         })),
+    }
+}
+
+fn bound_delete(catalog: &Catalog, table: &TextVal) -> Option<Bound>
+    ensures { result ≡ bound catalog.now (Delete table.now) }
+{
+    match catalog.table_number(table) {
+        None => None,
+        Some(table) => Some(Bound::DeleteRows { table }),
+    }
+}
+
+fn bound_of(catalog: &Catalog, statement: &Statement) -> Result<Option<Bound>, NoMemory>
+    ensures { IfOk result (λ found. found ≡ bound catalog.now statement.now) }
+{
+    match statement {
+        Statement::CreateTable { .. } => Ok(None),
+        Statement::Insert { table, rows } => bound_insert(catalog, table, rows),
+        Statement::Delete { table } => Ok(bound_delete(catalog, table)),
+        Statement::Begin => Ok(Some(Bound::BeginBlock)),
+        Statement::Commit => Ok(Some(Bound::CommitBlock)),
+        Statement::Rollback => Ok(Some(Bound::RollbackBlock)),
     }
 }
 
@@ -339,7 +399,7 @@ pub(crate) fn statements_for(
 {
     let mut statements = List::new(alloc);
     'statements: for placed in session.statements.as_slice() {
-        if let Some(statement) = bound_of(alloc, catalog, &placed.statement)? {
+        if let Some(statement) = bound_of(catalog, &placed.statement)? {
             statements.push(statement)?;
         }
     }

@@ -3,11 +3,17 @@
 
 mod catalog;
 mod checks;
+mod keys;
 mod machine;
 mod replies;
+mod rounds;
+mod rows;
 mod session;
+mod start;
 mod step;
+mod view;
 mod world;
+mod writes;
 
 pub use aq_xids::SessNo;
 pub use machine::Machine;

@@ -1,7 +1,10 @@
 ghost use Rattle.std.specs.Prelude.{◌≡◌, ◌++◌, [], ◌∷◌, map, codes, string_bytes, OnOk, IfOk};
 ghost use Rattle.std.specs.Fmt.{signed_decimal, decimal};
-ghost use Rattle.aq_run.specs.Replies.{answer_lines, detail_value, col_name, table_name, joined, key_text, quoted, error_lines};
+ghost use Rattle.aq_run.specs.Replies.{answer_lines, in_progress_warning, no_block_warning, detail_value, col_name, table_name, joined, key_text, quoted, error_lines};
 ghost use Rattle.aq_run.specs.Effects.{given};
+ghost use Rattle.aq_outcomes.specs.Faults.Fault.{In_failed_block};
+ghost use Rattle.aq_base.specs.declared.reply.ReplyLine.TheVariants.{Tag, Error, Detail};
+ghost use Rattle.aq_machine.specs.declared.session.Answer.TheVariants.{Began};
 ghost use Rattle.aq_machine.specs.Behind.{behind};
 ghost use Rattle.aq_machine.specs.Givens.{given_shown};
 ghost use Rattle.aq_machine.specs.Shown.{answer_shown};
@@ -58,14 +61,68 @@ fn push_count(out: &mut String, n: u64) -> Result<(), NoMemory>
     out.push_str(buffer.format(n))
 }
 
+fn tag_of_count(alloc: Global, word: &str, count: u64) -> Result<ReplyLine, NoMemory>
+    ensures { IfOk result (λ line. line ≡ Tag (word.now ++ decimal count)) }
+{
+    let mut out = String::from_str(alloc, word)?;
+    push_count(&mut out, count)?;
+    Ok(ReplyLine::Tag(TextVal::from_string(out)))
+}
+
+fn tag_of_word(alloc: Global, word: &str) -> Result<ReplyLine, NoMemory>
+    ensures { IfOk result (λ line. line ≡ Tag word.now) }
+{
+    Ok(ReplyLine::Tag(TextVal::new(alloc, word)?))
+}
+
 /// The tag of a statement that succeeded.
 pub(crate) fn answer_line(alloc: Global, answer: Answer) -> Result<ReplyLine, NoMemory>
     ensures { IfOk result (λ line. line ∷ [] ≡ answer_lines (answer_shown answer)) }
 {
-    let Answer::Inserted(count) = answer;
-    let mut out = String::from_str(alloc, "INSERT 0 ")?;
-    push_count(&mut out, count)?;
-    Ok(ReplyLine::Tag(TextVal::from_string(out)))
+    match answer {
+        Answer::Inserted(count) => tag_of_count(alloc, "INSERT 0 ", count),
+        Answer::Deleted(count) => tag_of_count(alloc, "DELETE ", count),
+        Answer::Began => tag_of_word(alloc, "BEGIN"),
+        Answer::Committed => tag_of_word(alloc, "COMMIT"),
+        Answer::RolledBack => tag_of_word(alloc, "ROLLBACK"),
+    }
+}
+
+/// The reply of a statement that succeeded.
+pub(crate) fn answer_reply(alloc: Global, answer: Answer) -> Result<Vec<ReplyLine>, NoMemory>
+    ensures { IfOk result (λ lines. lines.items ≡ answer_lines (answer_shown answer)) }
+{
+    let mut lines = Vec::new(alloc);
+    lines.push(answer_line(alloc, answer)?)?;
+    Ok(lines)
+}
+
+/// The reply of BEGIN in an open block.
+pub(crate) fn begun_before(alloc: Global) -> Result<Vec<ReplyLine>, NoMemory>
+    ensures { IfOk result (λ lines. lines.items ≡ in_progress_warning ∷ answer_lines (answer_shown Began)) }
+{
+    let text = TextVal::new(alloc, "there is already a transaction in progress")?;
+    let mut lines = Vec::new(alloc);
+    lines.push(ReplyLine::Warning {
+        code: Code(*b"25001"),
+        text,
+    })?;
+    lines.push(answer_line(alloc, Answer::Began)?)?;
+    Ok(lines)
+}
+
+/// The reply of COMMIT or ROLLBACK outside a block.
+pub(crate) fn no_block(alloc: Global, answer: Answer) -> Result<Vec<ReplyLine>, NoMemory>
+    ensures { IfOk result (λ lines. lines.items ≡ no_block_warning ∷ answer_lines (answer_shown answer)) }
+{
+    let text = TextVal::new(alloc, "there is no transaction in progress")?;
+    let mut lines = Vec::new(alloc);
+    lines.push(ReplyLine::Warning {
+        code: Code(*b"25P01"),
+        text,
+    })?;
+    lines.push(answer_line(alloc, answer)?)?;
+    Ok(lines)
 }
 
 fn push_value(out: &mut String, value: &Value) -> Result<(), NoMemory>
@@ -224,14 +281,26 @@ fn duplicate_detail(
     Ok(TextVal::from_string(out))
 }
 
+/// The constraint that a row of the table violates.
+fn push_violation(
+    out: &mut String,
+    catalog: &Catalog,
+    table: TabNo,
+    fk: &ForeignKey,
+) -> Result<(), NoMemory>
+    ensures { OnOk result (string_bytes out.new ≡ string_bytes out.old ++ quoted (table_name catalog.now table) ++ codes " violates foreign key constraint " ++ quoted fk.now.name) }
+{
+    push_quoted_table(out, catalog, table)?;
+    out.push_str(" violates foreign key constraint ")?;
+    push_quoted(out, fk.name.as_str())
+}
+
 fn missing_text(alloc: Global, catalog: &Catalog, fk: &ForeignKey) -> Result<TextVal, NoMemory>
     ensures { IfOk result (λ text. text ≡ codes "insert or update on table " ++ quoted (table_name catalog.now fk.now.child)
         ++ codes " violates foreign key constraint " ++ quoted fk.now.name) }
 {
     let mut out = String::from_str(alloc, "insert or update on table ")?;
-    push_quoted_table(&mut out, catalog, fk.child)?;
-    out.push_str(" violates foreign key constraint ")?;
-    push_quoted(&mut out, fk.name.as_str())?;
+    push_violation(&mut out, catalog, fk.child, fk)?;
     Ok(TextVal::from_string(out))
 }
 
@@ -258,6 +327,94 @@ fn missing_detail(
     Ok(TextVal::from_string(out))
 }
 
+fn referenced_text(alloc: Global, catalog: &Catalog, fk: &ForeignKey) -> Result<TextVal, NoMemory>
+    ensures { IfOk result (λ text. text ≡ codes "update or delete on table " ++ quoted (table_name catalog.now fk.now.parent)
+        ++ codes " violates foreign key constraint " ++ quoted fk.now.name ++ codes " on table " ++ quoted (table_name catalog.now fk.now.child)) }
+{
+    let mut out = String::from_str(alloc, "update or delete on table ")?;
+    push_violation(&mut out, catalog, fk.parent, fk)?;
+    out.push_str(" on table ")?;
+    push_quoted_table(&mut out, catalog, fk.child)?;
+    Ok(TextVal::from_string(out))
+}
+
+fn referenced_detail(
+    alloc: Global,
+    catalog: &Catalog,
+    fk: &ForeignKey,
+    values: &Key,
+) -> Result<TextVal, NoMemory>
+    ensures { IfOk result (λ text. text ≡ key_text catalog.now fk.now.parent fk.now.parent_cols values.now
+        ++ codes " is still referenced from table " ++ quoted (table_name catalog.now fk.now.child) ++ codes ".") }
+{
+    let mut out = String::new(alloc);
+    push_key(
+        &mut out,
+        catalog,
+        fk.parent,
+        fk.parent_cols.as_slice(),
+        values.as_slice(),
+    )?;
+    out.push_str(" is still referenced from table ")?;
+    push_quoted_table(&mut out, catalog, fk.child)?;
+    out.push_str(".")?;
+    Ok(TextVal::from_string(out))
+}
+
+fn push_quoted_col(
+    out: &mut String,
+    catalog: &Catalog,
+    table: TabNo,
+    col: ColNo,
+) -> Result<(), NoMemory>
+    ensures { OnOk result (string_bytes out.new ≡ string_bytes out.old ++ quoted (col_name catalog.now table col)) }
+{
+    out.push_str("\"")?;
+    push_col_name(out, catalog, table, col)?;
+    out.push_str("\"")
+}
+
+fn null_text(
+    alloc: Global,
+    catalog: &Catalog,
+    table: TabNo,
+    col: ColNo,
+) -> Result<TextVal, NoMemory>
+    ensures { IfOk result (λ text. text ≡ codes "null value in column " ++ quoted (col_name catalog.now table col)
+        ++ codes " of relation " ++ quoted (table_name catalog.now table) ++ codes " violates not-null constraint") }
+{
+    let mut out = String::from_str(alloc, "null value in column ")?;
+    push_quoted_col(&mut out, catalog, table, col)?;
+    out.push_str(" of relation ")?;
+    push_quoted_table(&mut out, catalog, table)?;
+    out.push_str(" violates not-null constraint")?;
+    Ok(TextVal::from_string(out))
+}
+
+fn null_detail(alloc: Global, values: &[Value]) -> Result<TextVal, NoMemory>
+    ensures { IfOk result (λ text. text ≡ codes "Failing row contains (" ++ joined (map detail_value values.now) ++ codes ").") }
+{
+    let mut out = String::from_str(alloc, "Failing row contains (")?;
+    push_values(&mut out, values)?;
+    out.push_str(").")?;
+    Ok(TextVal::from_string(out))
+}
+
+/// An error and its detail.
+fn error_and_detail(
+    alloc: Global,
+    code: Code,
+    text: TextVal,
+    detail: TextVal,
+) -> Result<Vec<ReplyLine>, NoMemory>
+    ensures { IfOk result (λ lines. lines.items ≡ Error code text ∷ Detail detail ∷ []) }
+{
+    let mut lines = Vec::new(alloc);
+    lines.push(ReplyLine::Error { code, text })?;
+    lines.push(ReplyLine::Detail(detail))?;
+    Ok(lines)
+}
+
 /// The lines of a statement that was refused.
 pub(crate) fn fault_lines(
     alloc: Global,
@@ -272,14 +429,40 @@ pub(crate) fn fault_lines(
             duplicate_text(alloc, key)?,
             duplicate_detail(alloc, catalog, key, values)?,
         ),
+        Fault::NullValue { table, col, values } => (
+            Code(*b"23502"),
+            null_text(alloc, catalog, *table, *col)?,
+            null_detail(alloc, values.as_slice())?,
+        ),
         Fault::Missing { fk, values } => (
             Code(*b"23503"),
             missing_text(alloc, catalog, fk)?,
             missing_detail(alloc, catalog, fk, values)?,
         ),
+        Fault::Referenced { fk, values } => (
+            Code(*b"23503"),
+            referenced_text(alloc, catalog, fk)?,
+            referenced_detail(alloc, catalog, fk, values)?,
+        ),
     };
+    error_and_detail(alloc, code, text, detail)
+}
+
+/// The lines of a statement in a failed block that doesn't end it.
+pub(crate) fn failed_block_lines(
+    alloc: Global,
+    catalog: &Catalog,
+) -> Result<Vec<ReplyLine>, NoMemory>
+    ensures { IfOk result (λ lines. lines.items ≡ error_lines catalog.now In_failed_block) }
+{
+    let text = TextVal::new(
+        alloc,
+        "current transaction is aborted, commands ignored until end of transaction block",
+    )?;
     let mut lines = Vec::new(alloc);
-    lines.push(ReplyLine::Error { code, text })?;
-    lines.push(ReplyLine::Detail(detail))?;
+    lines.push(ReplyLine::Error {
+        code: Code(*b"25P02"),
+        text,
+    })?;
     Ok(lines)
 }

@@ -1,105 +1,117 @@
-ghost use Rattle.std.specs.Prelude.{◌≡◌, map, option_map, IfOk};
-ghost use Rattle.std.specs.List.{list_any};
-ghost use Rattle.aq_base.specs.Maps.{at};
-ghost use Rattle.aq_outcomes.specs.References.{is_live};
-ghost use Rattle.aq_outcomes.specs.Rows.{insert_events, fires_on, same_op};
-ghost use Rattle.aq_base.specs.declared.catalog.Op.TheVariants.{Insert as On_insert};
+ghost use Rattle.std.specs.Prelude.{◌≡◌};
 ghost use Rattle.aq_run.specs.States.{at_start};
-ghost use Rattle.aq_machine.specs.Versions.{write_has, write_entry};
+ghost use Rattle.aq_machine.specs.Shown.{waiting, nothing_held};
 
-use crate::catalog::Catalog;
-use crate::world::{Version, some_version_has};
-use aq_base::{ColNo, Copies, NoMemory, Op, Row, RowNo, TabNo, Trigger, Value};
+use crate::writes::{Event, Write};
+use aq_base::{Row, RowNo, TabNo};
 use std::alloc::Global;
 use std::collections::VecDeque;
 use std::marker::Model;
-
-/// An event that a row change queued.
-#[derive(Drop)]
-pub(crate) struct Event {
-    /// The trigger's place in the catalog.
-    pub(crate) trigger: usize,
-    pub(crate) row: RowNo,
-    pub(crate) write: u64,
-    pub(crate) new: Row,
-}
-
-impl Model for Event {
-    ghost use Rattle.aq_base.specs.Works.{Event as Seen};
-
-    ghost Value = { Seen };
-
-    ghost view = { λ e. record { trigger = e.trigger; row = e.row; write = e.write; new = e.new } };
-}
 
 /// What a statement answers when it succeeds.
 #[derive(Clone, Copy, Debug, PartialEq, Eq)]
 pub(crate) enum Answer {
     Inserted(u64),
+    Deleted(u64),
+    Began,
+    Committed,
+    RolledBack,
 }
 
-/// What is left to do of a statement.
+/// The state of a session's transaction block (PostgreSQL source, xact.c, TBlockState).
+#[derive(Clone, Copy, Debug, PartialEq, Eq)]
+pub(crate) enum Block {
+    /// Each statement is a transaction of its own.
+    Idle,
+    Open,
+    /// A statement of the block was refused.
+    Failed,
+}
+
+/// An INSERT: the rows left, and how many were inserted.
+#[derive(Drop)]
+pub(crate) struct NewRows {
+    pub(crate) table: TabNo,
+    pub(crate) left: VecDeque<Row>,
+    pub(crate) done: u64,
+}
+
+/// A DELETE: the rows left, and how many were deleted.
+#[derive(Drop)]
+pub(crate) struct OldRows {
+    pub(crate) table: TabNo,
+    pub(crate) left: VecDeque<RowNo>,
+    pub(crate) done: u64,
+}
+
+/// What is in progress in a transaction.
 #[derive(Drop)]
 pub(crate) enum Task {
-    /// An INSERT with the rows left, and how many were inserted.
-    Rows {
-        table: TabNo,
-        left: VecDeque<Row>,
-        done: u64,
-    },
+    /// Nothing: its block waits for the next statement.
+    Between,
+    Inserting(NewRows),
+    Deleting(OldRows),
     /// The rounds of the statement's level, and then its answer.
-    Rounds {
-        answer: Answer,
-    },
-    /// The transaction commits, and then the answer is given.
-    Committing {
-        answer: Answer,
-    },
+    Rounds(Answer),
+    /// The deferred events fire, the transaction commits, and then the answer is given.
+    Committing(Answer),
 }
 
-/// A statement in progress with its transaction: the writes in the order of their rows, the events queued at its
-/// level, and those of the round in progress, the first one first.
+/// What a transaction has written, in the order of the row numbers, and the events that it owes, the first one first:
+/// those that wait for the commit, those queued at the level, and those of the round in progress.
 #[derive(Drop)]
-pub(crate) struct Running {
-    pub(crate) writes: Vec<Version>,
+pub(crate) struct Work {
+    pub(crate) writes: Vec<Write>,
+    pub(crate) deferred: VecDeque<Event>,
     pub(crate) queued: VecDeque<Event>,
     pub(crate) round: VecDeque<Event>,
+}
+
+impl Model for Work {
+    ghost use Rattle.std.specs.Prelude.{map};
+    ghost use Rattle.aq_machine.specs.Shown.{Held};
+    ghost use Rattle.aq_machine.specs.Versions.{write_entry};
+
+    ghost Value = { Held };
+
+    ghost view = { λ w. record { writes = map write_entry w.writes.items; deferred = w.deferred.items; queued = w.queued.items; round = w.round.items } };
+}
+
+/// A transaction, and what is in progress in it.
+#[derive(Drop)]
+pub(crate) struct Transaction {
+    pub(crate) work: Work,
     pub(crate) task: Task,
 }
 
-impl Model for Running {
-    ghost use Rattle.std.specs.Prelude.{map};
-    ghost use Rattle.aq_machine.specs.Runnings.{InProgress};
-    ghost use Rattle.aq_machine.specs.Versions.{write_entry};
-    ghost use Rattle.aq_machine.specs.Shown.{task_shown, opened_at};
+impl Model for Transaction {
+    ghost use Rattle.aq_machine.specs.Shown.{InProgress, progress_shown};
 
     ghost Value = { InProgress };
 
-    ghost view = { λ r. record {
-      transaction = record { work = record { writes = map write_entry r.writes.items; opened = opened_at r.task r.queued.items r.round.items } };
-      task = task_shown r.task;
-    } };
+    ghost view = { λ t. progress_shown t.work t.task };
 }
 
-/// A session: how many statements it has taken, and the one in progress.
+/// A session: how many statements it has taken, its block and its transaction.
 #[derive(Drop)]
 pub(crate) struct Session {
     pub(crate) next: u32,
-    pub(crate) running: Option<Running>,
+    pub(crate) block: Block,
+    pub(crate) transaction: Option<Transaction>,
     pub(crate) ended: bool,
 }
 
 impl Model for Session {
-    ghost use Rattle.std.specs.Prelude.{map, option_map};
-    ghost use Rattle.std.specs.Option.{option_to_list};
     ghost use Rattle.aq_run.specs.States.{Session as Seen};
+    ghost use Rattle.aq_machine.specs.Shown.{block_shown, tasks_of, transaction_of};
 
     ghost Value = { Seen };
 
     ghost view = { λ s. record {
       next = s.next;
-      transaction = option_map (λ r. r.transaction) s.running;
-      tasks = map (λ r. r.task) (option_to_list s.running);
+      block = block_shown s.block;
+      transaction = transaction_of s.transaction;
+      tasks = tasks_of s.transaction;
       ended = s.ended;
     } };
 }
@@ -111,83 +123,35 @@ impl Session {
     {
         Session {
             next: 0,
-            running: None,
+            block: Block::Idle,
+            transaction: None,
             ended: false,
         }
     }
 }
 
-/// The number of the change that made the newest of the versions of a row.
-fn newest_write(versions: &[Version], row: RowNo) -> Option<u64>
-    ensures { result ≡ option_map (λ write. write.number) (at row (map write_entry versions.now)) }
-{
-    'versions: for v in versions {
-        if v.row == row {
-            return Some(v.write);
-        }
-    }
-    None
-}
-
-impl Running {
-    /// Whether the version of the event is still the newest one that the transaction has of the row.
-    pub(crate) fn is_live(&self, event: &Event) -> bool
-        ensures { result ≡ is_live event.now (at event.now.row self.now.transaction.work.writes) }
+impl Work {
+    /// Nothing written, and nothing owed.
+    pub(crate) fn new(alloc: Global) -> Work
+        ensures { result ≡ nothing_held }
     {
-        match newest_write(self.writes.as_slice(), event.row) {
-            None => false,
-            Some(write) => write == event.write,
+        Work {
+            writes: Vec::new(alloc),
+            deferred: VecDeque::new(alloc),
+            queued: VecDeque::new(alloc),
+            round: VecDeque::new(alloc),
         }
     }
+}
 
-    /// Whether a row that it wrote is in the table and has the key.
-    pub(crate) fn has_row(&self, table: TabNo, cols: &[ColNo], key: &[Value]) -> bool
-        ensures { result ≡ list_any (write_has table cols.now key.now) self.now.transaction.work.writes }
+impl Transaction {
+    /// A transaction that has done nothing.
+    pub(crate) fn begin(alloc: Global) -> Transaction
+        ensures { result ≡ waiting nothing_held }
     {
-        some_version_has(self.writes.as_slice(), table, cols, key)
-    }
-}
-
-/// The events that a new row queues: one for each trigger of its table that fires on INSERT, in their order.
-/// The error is want of memory.
-pub(crate) fn events_of(
-    alloc: Global,
-    catalog: &Catalog,
-    table: TabNo,
-    row: RowNo,
-    write: u64,
-    values: &Row,
-) -> Result<VecDeque<Event>, NoMemory>
-    ensures { IfOk result (λ events. events.items ≡ insert_events catalog.now table row write values.now) }
-{
-    let mut events = VecDeque::new(alloc);
-    'triggers: for (number, trigger) in catalog.triggers.as_slice().iter().enumerate() {
-        if fires_on_insert(trigger, table) {
-            events.push_back(Event {
-                trigger: number,
-                row,
-                write,
-                new: values.copy()?,
-            })?;
+        Transaction {
+            work: Work::new(alloc),
+            task: Task::Between,
         }
     }
-    Ok(events)
-}
-
-fn is_insert(op: &Op) -> bool
-    ensures { result ≡ same_op On_insert op.now }
-{
-    matches!(op, Op::Insert)
-}
-
-fn has_insert(ops: &[Op]) -> bool
-    ensures { result ≡ list_any (same_op On_insert) ops.now }
-{
-    ops.iter().any(is_insert)
-}
-
-fn fires_on_insert(trigger: &Trigger, table: TabNo) -> bool
-    ensures { result ≡ fires_on table On_insert trigger.now }
-{
-    trigger.table == table && has_insert(trigger.ops.as_slice())
 }

@@ -1,5 +1,5 @@
 -- Lists of tokens that begin with some tokens, on whatever lines.
-use Rattle.std.proofs.Common.{◌≡◌, ℕ, ◌+◌, Bool, true, List, [], ◌∷◌, ◌++◌, length, Some, None, refl, sym, ap, subst, arith, inl, inr}
+use Rattle.std.proofs.Common.{◌≡◌, ℕ, ◌+◌, Bool, true, List, [], ◌∷◌, ◌++◌, length, Some, None, refl, sym, ap, ◌∙◌, subst, arith, inl, inr}
 use Rattle.std.proofs.lemmas.Bool.{eqb-true, eq-eqb, cond-true}
 use Rattle.std.proofs.lemmas.Slice.Eq.{bytes_eq-Decides}
 use Rattle.aq_base.specs.Names.{Text, same_text}
@@ -8,7 +8,7 @@ use Rattle.aq_parse.specs.declared.token.Token.TheVariants.{Word, Integer, Symbo
 use Rattle.aq_parse.specs.declared.token.Lexed.{Lexed}
 use Rattle.aq_parse.specs.Grammar.{BeginsWith}
 use Rattle.aq_parse.specs.Parsing.{is_keyword, is_mark, is_setup, is_session, begins_with, behind_one, name_from, name_at}
-use Rattle.aq_parse.proofs.Facts.{chosen, some_is, none_is_not}
+use Rattle.aq_parse.proofs.Basics.{chosen, some_is, none_is_not}
 
 pub begins_then : (a b : List Token) (tokens middle rest : List Lexed) → BeginsWith a tokens middle → BeginsWith b middle rest → BeginsWith (a ++ b) tokens rest
 begins_then [] b tokens middle rest h k = subst (λ (x : List Lexed). BeginsWith b x rest) (sym h) k
@@ -89,6 +89,9 @@ pub one_again : (test : Token → Bool) (token : Token) (others : List Token) (t
     → (behind : List Lexed) × (behind_one test tokens ≡ Some behind) × BeginsWith others behind rest
 one_again test token others tokens rest is h =
     (h.1, rw h.2 (cond-true (test token) _ _ is.itself), h.3)
+
+pub one_read : (test : Token → Bool) (token : Token) (tokens rest : List Lexed) → IsTestOf test token → BeginsWith (token ∷ []) tokens rest → behind_one test tokens ≡ Some rest
+one_read test token tokens rest is h = let a = one_again test token [] tokens rest is h in a.1 ∙ ap (λ (x : List Lexed). Some x) a.2
 
 pub first_is : (test : Token → Bool) (token : Token) (others : List Token) (tokens rest : List Lexed) → BeginsWith (token ∷ others) tokens rest → begins_with test tokens ≡ test token
 first_is test token others tokens rest h = rw h.2 refl

@@ -3,7 +3,7 @@ use Rattle.std.proofs.Common.{◌≡◌, ℕ, zero, suc, ◌+◌, ◌≤◌, Boo
 use Rattle.std.specs.List.{list_any, slice_get}
 use Rattle.aq_base.specs.declared.script.Placed.{Placed}
 use Rattle.aq_parse.specs.Conditions.{definition_kept, setup_kept}
-use Rattle.aq_parse.proofs.Facts.{some_is, none_is_not}
+use Rattle.aq_parse.proofs.Basics.{some_is, none_is_not}
 
 pub any_mapped : {X Y : Type 0} (test : Y → Bool) (f : X → Y) (xs : List X) → list_any test (map f xs) ≡ list_any (λ x. test (f x)) xs
 any_mapped test f [] = refl

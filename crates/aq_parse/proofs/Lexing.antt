@@ -15,7 +15,7 @@ use Rattle.aq_parse.specs.declared.fault.ReadFault.TheVariants.{NoMemory, NotBui
 use Rattle.aq_parse.specs.Steps.{◌>>=◌, Fails}
 use Rattle.aq_parse.specs.Tokens.{lower, is_blank, is_symbol, is_digit, is_in_word, begins_otherwise, are_digits, number_of, SpellsToken, Place, behind_blank, behind_token, Lexes, Ends, Blank, Next}
 use Rattle.aq_parse.specs.Lexing.{front, behind, word_at, integer_at, directive_at, token_at, tokens_from}
-use Rattle.aq_parse.proofs.Facts.{bind_some, chosen, some_is, none_is_not, word_not_blank, digit_not_blank, symbol_not_blank, symbol_begins_no_word, digit_begins_no_word, begins_in_word}
+use Rattle.aq_parse.proofs.Basics.{bind_some, chosen, some_is, none_is_not, word_not_blank, digit_not_blank, symbol_not_blank, symbol_begins_no_word, digit_begins_no_word, begins_in_word}
 
 -- ---- bytes that pass a test
 

@@ -1,4 +1,4 @@
-pub mod Facts
+pub mod Basics
 pub mod Lexing
 pub mod Fronts
 pub mod Listing

@@ -6,8 +6,9 @@ use Rattle.aq_parse.specs.declared.fault.ReadFault.{ReadFault}
 use Rattle.aq_parse.specs.declared.fault.ReadFault.TheVariants.{NoMemory, NotBuilt}
 use Rattle.aq_parse.specs.declared.token.Lexed.{Lexed}
 use Rattle.aq_parse.specs.Steps.{◌>>=◌, Fails}
+use Rattle.aq_parse.specs.Grammar.{SpellsEach}
 use Rattle.aq_parse.specs.Parsing.{repeated_at}
-use Rattle.aq_parse.proofs.Facts.{bind_some, chosen, some_is}
+use Rattle.aq_parse.proofs.Basics.{bind_some, chosen, some_is}
 
 module _ {A : Type 0} (begins : List Lexed → Bool) (element : List Lexed → Option (A × List Lexed)) where
   -- the elements so far, and those that are still read
@@ -75,11 +76,6 @@ module _ {A : Type 0} (begins : List Lexed → Bool) (element : List Lexed → O
 
   -- ---- what is read is spelled so, and what is spelled so is read
 
-  -- elements one after the other
-  abbrev pub SpellsEach : (A → List Lexed → List Lexed → Type 0) → List A → List Lexed → List Lexed → Type 0
-  SpellsEach Spelled [] tokens rest = tokens ≡ rest
-  SpellsEach Spelled (x ∷ xs) tokens rest = (behind : List Lexed) × Spelled x tokens behind × SpellsEach Spelled xs behind rest
-
   pub each_takes : (Spelled : A → List Lexed → List Lexed → Type 0) → ((tokens : List Lexed) (found : A × List Lexed) → element tokens ≡ Some found → Spelled found.0 tokens found.1)
       → (most : ℕ) (tokens : List Lexed) (found : List A × List Lexed) → repeated_at begins element most tokens ≡ Some found → SpellsEach Spelled found.0 tokens found.1
   unfolding repeated_at
@@ -116,3 +112,12 @@ module _ {A : Type 0} (begins : List Lexed → Bool) (element : List Lexed → O
       let read = again.read x tokens h.0 h.1 (each_follows Spelled follows again xs h.0 rest h.2 f) in
       one_more most tokens (x, h.0) (again.begun x tokens h.0 h.1) read
       ∙ ap (λ (o : Option (List A × List Lexed)). o >>= λ others. Some (x ∷ others.0, others.1)) (each_again Spelled follows again xs most h.0 rest (omega arith) h.2 b f)
+
+-- elements that add no tokens add none one after the other
+pub each_no_longer : {A : Type 0} (Form : A → List Lexed → List Lexed → Type 0) → ((x : A) (tokens rest : List Lexed) → Form x tokens rest → length rest ≤ length tokens)
+    → (xs : List A) (tokens rest : List Lexed) → SpellsEach Form xs tokens rest → length rest ≤ length tokens
+each_no_longer Form no_longer [] tokens rest h = rw h (omega arith)
+each_no_longer Form no_longer (x ∷ xs) tokens rest h =
+    let a = no_longer x tokens h.0 h.1 in
+    let b = each_no_longer Form no_longer xs h.0 rest h.2 in
+    omega (arith, a, b)

@@ -1,22 +1,21 @@
 -- Statements, sections and scripts: what is read is spelled so, and what is spelled so is read.
-use Rattle.std.proofs.Common.{◌≡◌, ◌≤◌, true, false, List, [], ◌∷◌, ◌++◌, length, Option, Some, None, refl, ap, ◌∙◌, subst, arith, inl, inr}
+use Rattle.std.proofs.Common.{◌≡◌, ◌≤◌, ◌<◌, true, false, List, [], ◌∷◌, ◌++◌, length, Option, Some, None, refl, ap, ◌∙◌, subst, arith, inl, inr}
 use Rattle.std.proofs.lemmas.Bool.{cond-true, cond-false}
 use Rattle.aq_base.specs.declared.script.Statement.{Statement}
-use Rattle.aq_base.specs.declared.script.Statement.TheVariants.{CreateTable, Insert}
+use Rattle.aq_base.specs.declared.script.Statement.TheVariants.{CreateTable, Insert, Delete, Begin, Commit, Rollback}
 use Rattle.aq_base.specs.declared.script.Placed.{Placed}
 use Rattle.aq_base.specs.declared.script.SessionText.{SessionText}
 use Rattle.aq_base.specs.declared.script.Script.{Script}
-use Rattle.aq_parse.specs.declared.token.Token.{Token}
 use Rattle.aq_parse.specs.declared.token.Token.TheVariants.{Word, Setup, Session}
 use Rattle.aq_parse.specs.declared.token.Lexed.{Lexed}
 use Rattle.aq_parse.specs.Steps.{◌>>=◌}
-use Rattle.aq_parse.specs.Grammar.{BeginsWith, semicolon, statement_tokens, first_line, SpellsPlaced, SpellsStatements, SpellsSetup, SpellsSessions, Spells}
+use Rattle.aq_parse.specs.Grammar.{SpellsEach, semicolon, first_line, SpellsStatement, SpellsPlaced, SpellsSetup, SpellsSessions, Spells}
 use Rattle.aq_parse.specs.Parsing.{is_mark, is_setup, is_session, begins_with, behind_one, name_at, repeated_at, statement_at, placed_at, goes_on, statements_at, setup_at, ended, session_at, sessions_at, script_at}
-use Rattle.aq_parse.proofs.Facts.{bind_some, chosen, some_is, none_is_not}
-use Rattle.aq_parse.proofs.Fronts.{begins_then, begins_split, begins_length, mark_test, setup_test, session_test, one_takes, one_again, first_is, name_takes, name_again}
+use Rattle.aq_parse.proofs.Basics.{bind_some, chosen, some_is, none_is_not}
+use Rattle.aq_parse.proofs.Fronts.{begins_then, begins_length, mark_test, setup_test, session_test, one_takes, one_again, one_read, first_is, name_takes, name_again}
 use Rattle.aq_parse.proofs.Readers.{is_symbol_token}
-use Rattle.aq_parse.proofs.Listing.{Shortens, Stands, SpellsEach, IsReadAgain, each_takes, each_again}
-use Rattle.aq_parse.proofs.Trees.{statement_takes, statement_again}
+use Rattle.aq_parse.proofs.Listing.{Shortens, Stands, IsReadAgain, each_takes, each_again}
+use Rattle.aq_parse.proofs.Trees.{statement_takes, statement_again, statement_no_longer}
 
 placed_takes : (tokens : List Lexed) (found : Placed × List Lexed) → placed_at tokens ≡ Some found → SpellsPlaced found.0 tokens found.1
 unfolding placed_at
@@ -27,53 +26,50 @@ placed_takes tokens found e =
     let tb = statement_takes tokens b.0 b.1 in
     let tc = one_takes (is_mark 59) semicolon b.0.1 c.0 (mark_test 59) c.1 in
     let made : Placed × List Lexed = (record { line = a.0; statement = b.0.0 }, c.0) in
-    subst (λ (f : Placed × List Lexed). SpellsPlaced f.0 tokens f.1) {x = made} (some_is made found c.2)
-    (record { form = tb.1; spelled = begins_then (statement_tokens b.0.0) (semicolon ∷ []) tokens b.0.1 c.0 tb.0 tc; line = a.1 })
+    subst (λ (f : Placed × List Lexed). SpellsPlaced f.0 tokens f.1) (some_is made found c.2)
+    (record { spelled = (b.0.1, tb, tc); line = a.1 })
 
 placed_again : (placed : Placed) (tokens rest : List Lexed) → SpellsPlaced placed tokens rest → placed_at tokens ≡ Some (placed, rest)
 unfolding placed_at
 placed_again placed tokens rest h =
-    let b = begins_split (statement_tokens placed.statement) (semicolon ∷ []) tokens rest h.spelled in
-    let statement = statement_again placed.statement tokens b.0 b.1 h.form (first_is is_symbol_token semicolon [] b.0 rest b.2) (first_is (is_mark 44) semicolon [] b.0 rest b.2) in
-    let c = one_again (is_mark 59) semicolon [] b.0 rest (mark_test 59) b.2 in
-    let last : behind_one (is_mark 59) b.0 ≡ Some rest = c.1 ∙ ap (λ (x : List Lexed). Some x) c.2 in
+    let k = h.spelled in
+    let statement = statement_again placed.statement tokens k.0 k.1 (first_is is_symbol_token semicolon [] k.0 rest k.2) (first_is (is_mark 44) semicolon [] k.0 rest k.2) in
+    let last = one_read (is_mark 59) semicolon k.0 rest (mark_test 59) k.2 in
     rw (h.line, statement, last) refl
 
+placed_shorter : (placed : Placed) (tokens rest : List Lexed) → SpellsPlaced placed tokens rest → length rest < length tokens
+placed_shorter placed tokens rest h =
+    let k = h.spelled in
+    let a = statement_no_longer placed.statement tokens k.0 k.1 in
+    let b = begins_length (semicolon ∷ []) k.0 rest k.2 in
+    omega (arith, a, b)
+
 pub placed_shortens : Shortens goes_on placed_at
-placed_shortens tokens found e =
-    let h = placed_takes tokens found e in
-    let b = begins_split (statement_tokens found.0.statement) (semicolon ∷ []) tokens found.1 h.spelled in
-    let k = begins_length (statement_tokens found.0.statement) tokens b.0 b.1 in
-    let s = begins_length (semicolon ∷ []) b.0 found.1 b.2 in
-    omega (arith, k, s)
+placed_shortens tokens found e = placed_shorter found.0 tokens found.1 (placed_takes tokens found e)
 
 -- a statement begins with a word
-begins_statement : (statement : Statement) (more : List Token) (tokens rest : List Lexed) → BeginsWith (statement_tokens statement ++ more) tokens rest → goes_on tokens ≡ true
-begins_statement (CreateTable table items) more tokens rest h = rw h.2 refl
-begins_statement (Insert table rows) more tokens rest h = rw h.2 refl
+begins_statement : (statement : Statement) (tokens rest : List Lexed) → SpellsStatement statement tokens rest → goes_on tokens ≡ true
+begins_statement (CreateTable table items) tokens rest h = let k = h.1 in rw k.2 refl
+begins_statement (Insert table rows) tokens rest h = let k = h.1 in rw k.2 refl
+begins_statement (Delete table) tokens rest h = rw h.2 refl
+begins_statement Begin tokens rest h = rw h.2 refl
+begins_statement Commit tokens rest h = rw h.2 refl
+begins_statement Rollback tokens rest h = rw h.2 refl
 
 placed_read : IsReadAgain goes_on placed_at SpellsPlaced (λ tokens. true)
 placed_read = record {
-  begun = λ placed tokens rest h. begins_statement placed.statement (semicolon ∷ []) tokens rest h.spelled;
+  begun = λ placed tokens rest h. let k = h.spelled in begins_statement placed.statement tokens k.0 k.1;
   follow = λ placed tokens rest h. refl;
-  shorter = λ placed tokens rest h. placed_shortens tokens (placed, rest) (placed_again placed tokens rest h);
+  shorter = placed_shorter;
   read = λ placed tokens rest h follows. placed_again placed tokens rest h;
 }
 
-statements_so : (statements : List Placed) (tokens rest : List Lexed) → SpellsEach goes_on placed_at SpellsPlaced statements tokens rest → SpellsStatements statements tokens rest
-statements_so [] tokens rest h = h
-statements_so (placed ∷ others) tokens rest h = (h.0, h.1, statements_so others h.0 rest h.2)
+statements_take : (tokens : List Lexed) (found : List Placed × List Lexed) → statements_at tokens ≡ Some found → SpellsEach SpellsPlaced found.0 tokens found.1
+statements_take tokens found e = each_takes goes_on placed_at SpellsPlaced placed_takes (length tokens) tokens found e
 
-each_so : (statements : List Placed) (tokens rest : List Lexed) → SpellsStatements statements tokens rest → SpellsEach goes_on placed_at SpellsPlaced statements tokens rest
-each_so [] tokens rest h = h
-each_so (placed ∷ others) tokens rest h = (h.0, h.1, each_so others h.0 rest h.2)
-
-statements_take : (tokens : List Lexed) (found : List Placed × List Lexed) → statements_at tokens ≡ Some found → SpellsStatements found.0 tokens found.1
-statements_take tokens found e = statements_so found.0 tokens found.1 (each_takes goes_on placed_at SpellsPlaced placed_takes (length tokens) tokens found e)
-
-statements_again : (statements : List Placed) (tokens rest : List Lexed) → SpellsStatements statements tokens rest → goes_on rest ≡ false → statements_at tokens ≡ Some (statements, rest)
+statements_again : (statements : List Placed) (tokens rest : List Lexed) → SpellsEach SpellsPlaced statements tokens rest → goes_on rest ≡ false → statements_at tokens ≡ Some (statements, rest)
 statements_again statements tokens rest h ends =
-    each_again goes_on placed_at SpellsPlaced (λ tokens. true) placed_read statements (length tokens) tokens rest (omega arith) (each_so statements tokens rest h) ends refl
+    each_again goes_on placed_at SpellsPlaced (λ tokens. true) placed_read statements (length tokens) tokens rest (omega arith) h ends refl
 
 setup_takes : (tokens : List Lexed) (found : List Placed × List Lexed) → setup_at tokens ≡ Some found → SpellsSetup found.0 tokens found.1
 unfolding setup_at
@@ -84,7 +80,7 @@ setup_takes tokens found e =
           inr (a.0, one_takes is_setup Setup tokens a.0 setup_test a.1, statements_take a.0 found a.2)
       | inr g ↦
           let made : List Placed × List Lexed = ([], tokens) in
-          subst (λ (f : List Placed × List Lexed). SpellsSetup f.0 tokens f.1) {x = made} (some_is made found g.1) (inl (refl, refl))
+          subst (λ (f : List Placed × List Lexed). SpellsSetup f.0 tokens f.1) (some_is made found g.1) (inl (refl, refl))
     ]
 
 ended_is : {A : Type 0} (x y : A) (tokens : List Lexed) → ended x tokens ≡ Some y → (tokens ≡ []) × (x ≡ y)
@@ -101,7 +97,7 @@ session_takes tokens found e =
     let all = ended_is made found c.0.1 c.2 in
     let ta = one_takes is_session Session tokens a.0 session_test a.1 in
     let tb = name_takes a.0 b.0 b.1 in
-    let tc : SpellsStatements c.0.0 b.0.1 [] = subst (λ (x : List Lexed). SpellsStatements c.0.0 b.0.1 x) all.0 (statements_take b.0.1 c.0 c.1) in
+    let tc : SpellsEach SpellsPlaced c.0.0 b.0.1 [] = subst (λ (x : List Lexed). SpellsEach SpellsPlaced c.0.0 b.0.1 x) all.0 (statements_take b.0.1 c.0 c.1) in
     subst (λ (s : SessionText). SpellsSessions (s ∷ []) tokens) all.1 (b.0.1, begins_then (Session ∷ []) (Word b.0.0 ∷ []) tokens a.0 b.0.1 ta tb, tc)
 
 session_again : (session : SessionText) (tokens : List Lexed) → SpellsSessions (session ∷ []) tokens → session_at tokens ≡ Some session
@@ -139,10 +135,10 @@ unfolding setup_at
 setup_again setup tokens rest h behind = elim h [
   | inl g ↦ rw (g.0, g.1) (cond-false (begins_with is_setup rest) _ _ behind.other)
   | inr g ↦
-      let a = one_again is_setup Setup [] tokens g.0 setup_test g.1 in
+      let a = one_read is_setup Setup tokens g.0 setup_test g.1 in
       let first = first_is is_setup Setup [] tokens g.0 g.1 in
       let all = statements_again setup g.0 rest g.2 behind.ends in
-      cond-true (begins_with is_setup tokens) _ _ first ∙ (ap (λ (o : Option (List Lexed)). o >>= λ rest. statements_at rest) (a.1 ∙ ap (λ (x : List Lexed). Some x) a.2) ∙ all)
+      cond-true (begins_with is_setup tokens) _ _ first ∙ (ap (λ (o : Option (List Lexed)). o >>= λ rest. statements_at rest) a ∙ all)
 ]
 
 pub script_takes : (tokens : List Lexed) (script : Script) → script_at tokens ≡ Some script → Spells tokens script
@@ -151,7 +147,7 @@ script_takes tokens script e =
     let a = bind_some (setup_at tokens) (λ setup. sessions_at setup.1 >>= λ sessions. Some (record { setup = setup.0; sessions = sessions; schedule = None })) script e in
     let b = bind_some (sessions_at a.0.1) (λ sessions. Some (record { setup = a.0.0; sessions = sessions; schedule = None })) script a.2 in
     let made : Script = record { setup = a.0.0; sessions = b.0; schedule = None } in
-    subst (λ (s : Script). Spells tokens s) {x = made} (some_is made script b.2)
+    subst (λ (s : Script). Spells tokens s) (some_is made script b.2)
     (record { sessions = a.0.1; setup_part = setup_takes tokens a.0 a.1; sessions_part = sessions_take a.0.1 b.0 b.1; schedule_part = refl })
 
 pub script_again : (tokens : List Lexed) (script : Script) → Spells tokens script → script_at tokens ≡ Some script

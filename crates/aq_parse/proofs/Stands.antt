@@ -1,5 +1,5 @@
 -- Statements before a place stand for the catalog that they make, so that both keep the same names and limits.
-use Rattle.std.proofs.Common.{◌≡◌, ℕ, suc, ◌+◌, ◌≤◌, ◌<◌, Bool, true, false, cond, ◌&&◌, ◌||◌, ltb, ◌==◌, nat_lt, nat_le, List, [], ◌∷◌, ◌++◌, length, map, Option, Some, None, refl, sym, ap, ◌∙◌, subst, arith, append_assoc, zero-add, add-zero}
+use Rattle.std.proofs.Common.{◌≡◌, ℕ, suc, ◌+◌, ◌≤◌, ◌<◌, Bool, true, false, cond, not, ◌&&◌, ◌||◌, ltb, ◌==◌, nat_lt, nat_le, List, [], ◌∷◌, ◌++◌, length, map, Option, Some, None, refl, sym, ap, ◌∙◌, subst, arith, append_assoc, zero-add, add-zero}
 use Rattle.std.specs.Prelude.{is_some, is_none, find, option_map, option_and_then, slice_get, sum_by}
 use Rattle.std.specs.List.{list_all, list_any, position_or_len, position_from}
 use Rattle.std.specs.Option.{option_or}
@@ -12,30 +12,42 @@ use Rattle.std.proofs.lemmas.Option.{slice_get_past}
 use Rattle.aq_base.specs.Values.{Row}
 use Rattle.aq_base.specs.Names.{Text, same_text, is_name, is_short, all_differ, primary_key_name, foreign_key_name}
 use Rattle.aq_base.specs.Catalogs.{Catalog}
-use Rattle.aq_base.specs.Setup.{no_tables, table_number, referred, column_of, adds_table, adds_key, adds_keys, adds_foreign_key, adds_reference, adds_references, creates, setup_from, catalog_of}
-use Rattle.aq_base.specs.Scripts.{is_primary, is_reference, constraint_fits, column_fits, can_create, can_set_up, rows_fit, table_named, can_run, session_fits, rows_in_session, fits_first_language}
+use Rattle.aq_base.specs.Setup.{no_tables, table_number, referred, is_primary, column_of, primary_items, adds_table, adds_key, adds_keys, adds_foreign_key, adds_reference, adds_references, creates, setup_from, catalog_of}
+use Rattle.aq_base.specs.Scripts.{is_reference, constraint_fits, column_fits, with_keys, can_create, can_set_up, rows_fit, table_named, can_run, session_fits, rows_in_session, fits_first_language}
 use Rattle.aq_base.specs.declared.catalog.Table.{Table}
 use Rattle.aq_base.specs.declared.catalog.UniqueKey.{UniqueKey}
 use Rattle.aq_base.specs.declared.catalog.ForeignKey.{ForeignKey}
+use Rattle.aq_base.specs.declared.catalog.Decl.{Decl}
 use Rattle.aq_base.specs.declared.script.ColumnConstraint.{ColumnConstraint}
 use Rattle.aq_base.specs.declared.script.ColumnConstraint.TheVariants.{PrimaryKey, References}
 use Rattle.aq_base.specs.declared.script.ColumnItem.{ColumnItem}
 use Rattle.aq_base.specs.declared.script.Statement.{Statement}
-use Rattle.aq_base.specs.declared.script.Statement.TheVariants.{CreateTable, Insert}
+use Rattle.aq_base.specs.declared.script.Statement.TheVariants.{CreateTable, Insert, Delete, Begin, Commit, Rollback}
 use Rattle.aq_base.specs.declared.script.Placed.{Placed}
 use Rattle.aq_base.specs.declared.script.SessionText.{SessionText}
 use Rattle.aq_base.specs.declared.script.Script.{Script}
-use Rattle.aq_parse.specs.Conditions.{created, items_named, primaries_in, references_in, has_primary, constraint_kept, column_kept, statement_references, references_before, create_kept, setup_kept, rows_kept, run_kept, session_kept, statements_in, script_kept}
+use Rattle.aq_parse.specs.Conditions.{created, items_named, items_with, primaries_in, references_in, has_primary, constraint_kept, column_kept, statement_references, references_before, create_kept, setup_kept, rows_kept, run_kept, session_kept, statements_in, script_kept}
 
 -- ---- what statements make
 
 abbrev is_create : Statement → Bool
 is_create (CreateTable table items) = true
 is_create (Insert table rows) = false
+is_create (Delete table) = false
+is_create Begin = false
+is_create Commit = false
+is_create Rollback = false
+
+abbrev no_table : Table
+no_table = record { name = []; cols = []; not_null = [] }
 
 abbrev table_from : Statement → Table
-table_from (CreateTable table items) = record { name = table; cols = map column_of items }
-table_from (Insert table rows) = record { name = table; cols = [] }
+table_from (CreateTable table items) = record { name = table; cols = map column_of items; not_null = primary_items 0 items }
+table_from (Insert table rows) = no_table
+table_from (Delete table) = no_table
+table_from Begin = no_table
+table_from Commit = no_table
+table_from Rollback = no_table
 
 abbrev tables_of : List Placed → List Table
 tables_of earlier = map (λ placed. table_from placed.statement) earlier
@@ -43,7 +55,7 @@ tables_of earlier = map (λ placed. table_from placed.statement) earlier
 abbrev key_of : ℕ → Text → ℕ → Option ColumnConstraint → List UniqueKey
 key_of number table col None = []
 key_of number table col (Some PrimaryKey) = record { name = primary_key_name table; table = number; cols = col ∷ [] } ∷ []
-key_of number table col (Some (References parent)) = []
+key_of number table col (Some (References parent decl)) = []
 
 abbrev item_keys : ℕ → Text → ℕ → List ColumnItem → List UniqueKey
 item_keys number table col [] = []
@@ -52,6 +64,10 @@ item_keys number table col (item ∷ items) = key_of number table col item.const
 abbrev statement_keys : ℕ → Statement → List UniqueKey
 statement_keys number (CreateTable table items) = item_keys number table 0 items
 statement_keys number (Insert table rows) = []
+statement_keys number (Delete table) = []
+statement_keys number Begin = []
+statement_keys number Commit = []
+statement_keys number Rollback = []
 
 abbrev keys_from : ℕ → List Placed → List UniqueKey
 keys_from number [] = []
@@ -81,6 +97,10 @@ number_is_none name number (placed ∷ others) only = head placed.statement othe
       | false ↦ rest only
     ]
     head (Insert table rows) others only rest = absurd cc
+    head (Delete table) others only rest = absurd cc
+    head Begin others only rest = absurd cc
+    head Commit others only rest = absurd cc
+    head Rollback others only rest = absurd cc
 
 rows_are : (name : Text) (rows : List Row) (earlier : List Placed) → list_all (λ placed. is_create placed.statement) earlier ≡ true
     → rows_fit (find (is_named name) (tables_of earlier)) rows ≡ rows_kept (items_named earlier name) rows
@@ -90,11 +110,15 @@ rows_are name rows (placed ∷ others) only = head placed.statement others only 
     head : (statement : Statement) (others : List Placed) → (is_create statement && list_all (λ placed. is_create placed.statement) others) ≡ true
         → (list_all (λ placed. is_create placed.statement) others ≡ true → rows_fit (find (is_named name) (tables_of others)) rows ≡ rows_kept (items_named others name) rows)
         → rows_fit (cond (is_named name (table_from statement)) (Some (table_from statement)) (find (is_named name) (tables_of others))) rows ≡ rows_kept (option_or (created name statement) (items_named others name)) rows
-    head (CreateTable table items) others only rest = elim (same_text table name) as (λ v. rows_fit (cond v (Some (record { name = table; cols = map column_of items })) (find (is_named name) (tables_of others))) rows ≡ rows_kept (option_or (cond v (Some items) None) (items_named others name)) rows) [
+    head (CreateTable table items) others only rest = elim (same_text table name) as (λ v. rows_fit (cond v (Some (table_from (CreateTable table items))) (find (is_named name) (tables_of others))) rows ≡ rows_kept (option_or (cond v (Some items) None) (items_named others name)) rows) [
       | true ↦ rw length-map refl
       | false ↦ rest only
     ]
     head (Insert table rows') others only rest = absurd cc
+    head (Delete table) others only rest = absurd cc
+    head Begin others only rest = absurd cc
+    head Commit others only rest = absurd cc
+    head Rollback others only rest = absurd cc
 
 found_is : (name : Text) (cat : Catalog) → table_named cat name ≡ find (is_named name) cat.tables
 found_is name cat = (elim (ltb (position_or_len (is_named name) cat.tables) (length cat.tables)) as
@@ -129,7 +153,7 @@ is_some_any number (key ∷ keys) = elim (key.table == number) as (λ v. is_some
 key_there : (number : ℕ) (table : Text) (col : ℕ) (constraint : Option ColumnConstraint) → has_key (key_of number table col constraint) number ≡ is_primary constraint
 key_there number table col None = refl
 key_there number table col (Some PrimaryKey) = rw (eq-eqb number number refl) refl
-key_there number table col (Some (References parent)) = refl
+key_there number table col (Some (References parent decl)) = refl
 
 keys_there : (number : ℕ) (table : Text) (col : ℕ) (items : List ColumnItem) → has_key (item_keys number table col items) number ≡ list_any (λ item. is_primary item.constraint) items
 keys_there number table col [] = refl
@@ -140,7 +164,7 @@ keys_there number table col (item ∷ items) =
 key_apart : (number other : ℕ) (table : Text) (col : ℕ) (constraint : Option ColumnConstraint) → (number ≡ other → ⊥) → has_key (key_of number table col constraint) other ≡ false
 key_apart number other table col None apart = refl
 key_apart number other table col (Some PrimaryKey) apart = rw (ne_eqb number other apart) refl
-key_apart number other table col (Some (References parent)) apart = refl
+key_apart number other table col (Some (References parent decl)) apart = refl
 
 keys_apart : (number other : ℕ) (table : Text) (col : ℕ) (items : List ColumnItem) → (number ≡ other → ⊥) → has_key (item_keys number table col items) other ≡ false
 keys_apart number other table col [] apart = refl
@@ -151,6 +175,10 @@ keys_apart number other table col (item ∷ items) apart =
 statement_apart : (number other : ℕ) (statement : Statement) → (number ≡ other → ⊥) → has_key (statement_keys number statement) other ≡ false
 statement_apart number other (CreateTable table items) apart = keys_apart number other table 0 items apart
 statement_apart number other (Insert table rows) apart = refl
+statement_apart number other (Delete table) apart = refl
+statement_apart number other Begin apart = refl
+statement_apart number other Commit apart = refl
+statement_apart number other Rollback apart = refl
 
 keys_later : (number other : ℕ) (earlier : List Placed) → other < number → has_key (keys_from number earlier) other ≡ false
 keys_later number other [] less = refl
@@ -186,6 +214,10 @@ keyed_is name number keys (placed ∷ others) only same = head placed.statement 
           | false ↦ rest only later
         ]
     head (Insert table rows) only same rest = absurd cc
+    head (Delete table) only same rest = absurd cc
+    head Begin only same rest = absurd cc
+    head Commit only same rest = absurd cc
+    head Rollback only same rest = absurd cc
 
 referred_is : (name : Text) (keys : List UniqueKey) (number : Option ℕ)
     → is_some {T = ℕ × List ℕ} (option_and_then (λ number. option_map (λ cols. (number, cols)) (option_map (λ k. k.cols) (find (λ k. k.table == number) keys))) number) ≡ keyed keys number
@@ -222,7 +254,7 @@ record AddsKeys (old new : Catalog) (keys : List UniqueKey) : Type 0 where
 key_added : (number : ℕ) (table : Text) (col : ℕ) (constraint : Option ColumnConstraint) (cat : Catalog) → AddsKeys cat (adds_key number table col constraint cat) (key_of number table col constraint)
 key_added number table col None cat = record { tables = refl; keys_are = sym (append-nil cat.keys); fks = refl }
 key_added number table col (Some PrimaryKey) cat = record { tables = refl; keys_are = refl; fks = refl }
-key_added number table col (Some (References parent)) cat = record { tables = refl; keys_are = sym (append-nil cat.keys); fks = refl }
+key_added number table col (Some (References parent decl)) cat = record { tables = refl; keys_are = sym (append-nil cat.keys); fks = refl }
 
 keys_added : (number : ℕ) (table : Text) (col : ℕ) (items : List ColumnItem) (cat : Catalog) → AddsKeys cat (adds_keys number table col items cat) (item_keys number table col items)
 keys_added number table col [] cat = record { tables = refl; keys_are = sym (append-nil cat.keys); fks = refl }
@@ -243,22 +275,22 @@ record AddsReferences (old new : Catalog) (count : ℕ) : Type 0 where
 abbrev reference_there : (Text → Bool) → Option ColumnConstraint → Bool
 reference_there there None = true
 reference_there there (Some PrimaryKey) = true
-reference_there there (Some (References parent)) = there parent
+reference_there there (Some (References parent decl)) = there parent
 
-foreign_key_added : (number : ℕ) (table : Text) (col : ℕ) (name : Text) (parent : Option (ℕ × List ℕ)) (cat : Catalog) → is_some parent ≡ true → AddsReferences cat (adds_foreign_key number table col name parent cat) 1
-foreign_key_added number table col name None cat there = absurd cc
-foreign_key_added number table col name (Some parent) cat there = record { tables = refl; keys = refl; fks = length-append cat.fks _ }
+foreign_key_added : (number : ℕ) (table : Text) (col : ℕ) (name : Text) (decl : Decl) (parent : Option (ℕ × List ℕ)) (cat : Catalog) → is_some parent ≡ true → AddsReferences cat (adds_foreign_key number table col name decl parent cat) 1
+foreign_key_added number table col name decl None cat there = absurd cc
+foreign_key_added number table col name decl (Some parent) cat there = record { tables = refl; keys = refl; fks = length-append cat.fks _ }
 
 reference_added : (number : ℕ) (table : Text) (col : ℕ) (name : Text) (constraint : Option ColumnConstraint) (cat : Catalog) → reference_there (λ parent. is_some (referred parent cat)) constraint ≡ true
     → AddsReferences cat (adds_reference number table col name constraint cat) (cond (is_reference constraint) 1 0)
 reference_added number table col name None cat there = record { tables = refl; keys = refl; fks = omega arith }
 reference_added number table col name (Some PrimaryKey) cat there = record { tables = refl; keys = refl; fks = omega arith }
-reference_added number table col name (Some (References parent)) cat there = foreign_key_added number table col name (referred parent cat) cat there
+reference_added number table col name (Some (References parent decl)) cat there = foreign_key_added number table col name decl (referred parent cat) cat there
 
 still_there : (old new : Catalog) (constraint : Option ColumnConstraint) → new.tables ≡ old.tables → new.keys ≡ old.keys → reference_there (λ parent. is_some (referred parent old)) constraint ≡ true → reference_there (λ parent. is_some (referred parent new)) constraint ≡ true
 still_there old new None tables keys there = refl
 still_there old new (Some PrimaryKey) tables keys there = refl
-still_there old new (Some (References parent)) tables keys there = rw (tables, keys) there
+still_there old new (Some (References parent decl)) tables keys there = rw (tables, keys) there
 
 all_still_there : (old new : Catalog) (items : List ColumnItem) → new.tables ≡ old.tables → new.keys ≡ old.keys → list_all (λ item. reference_there (λ parent. is_some (referred parent old)) item.constraint) items ≡ true
     → list_all (λ item. reference_there (λ parent. is_some (referred parent new)) item.constraint) items ≡ true
@@ -278,43 +310,10 @@ references_added number table col (item ∷ items) cat there =
     let count : references_in (item ∷ items) ≡ cond (is_reference item.constraint) 1 0 + references_in items = sum_by-cons (λ (item : ColumnItem). cond (is_reference item.constraint) 1 0) item items in
     record { tables = b.tables ∙ a.tables; keys = b.keys ∙ a.keys; fks = omega (arith, b.fks, a.fks, count) }
 
--- ---- both keep the same
-
-record Stands (earlier : List Placed) (cat : Catalog) : Type 0 where
-  made : IsMadeBy earlier cat
-  fks : length cat.fks ≡ references_before earlier
-
 tables_len : (earlier : List Placed) (cat : Catalog) → IsMadeBy earlier cat → length cat.tables ≡ length earlier
 tables_len earlier cat made = ap (λ (ts : List Table). length ts) made.tables ∙ length-map earlier (λ placed. table_from placed.statement)
 
-constraint_same : (earlier : List Placed) (cat : Catalog) → IsMadeBy earlier cat → (table col : Text) (constraint : Option ColumnConstraint) → constraint_kept earlier table col constraint ≡ constraint_fits cat table col constraint
-constraint_same earlier cat made table col None = refl
-constraint_same earlier cat made table col (Some PrimaryKey) = refl
-constraint_same earlier cat made table col (Some (References parent)) =
-    ap (λ (there : Bool). is_name parent && there && is_short (foreign_key_name table col)) (sym (referred_same earlier cat made parent))
-
-columns_same : (earlier : List Placed) (cat : Catalog) → IsMadeBy earlier cat → (table : Text) (items : List ColumnItem) → list_all (column_kept earlier table) items ≡ list_all (column_fits cat table) items
-columns_same earlier cat made table [] = refl
-columns_same earlier cat made table (item ∷ items) =
-    ap (λ (fits : Bool). (is_name item.name && fits) && list_all (column_kept earlier table) items) (constraint_same earlier cat made table item.name item.constraint)
-    ∙ ap (λ (rest : Bool). column_fits cat table item && rest) (columns_same earlier cat made table items)
-
-create_same : (earlier : List Placed) (cat : Catalog) → Stands earlier cat → (table : Text) (items : List ColumnItem) → create_kept earlier table items ≡ can_create cat table items
-create_same earlier cat stands table items =
-    let none = sym (none_same earlier cat stands.made table) in
-    let tables = sym (tables_len earlier cat stands.made) in
-    let columns = columns_same earlier cat stands.made table items in
-    let fks = sym stands.fks in
-    let named : Bool = is_name table in
-    let short : Bool = nat_le (length items) 32 in
-    let differ : Bool = all_differ (map (λ item. item.name) items) in
-    let primary : Bool = nat_le (primaries_in items) 1 in
-    ap (λ (a : Bool). named && a && nat_lt (length earlier) 64 && short && differ && list_all (column_kept earlier table) items && primary && nat_le (references_before earlier + references_in items) 128) none
-    ∙ (ap (λ (n : ℕ). named && is_none (table_number table cat) && nat_lt n 64 && short && differ && list_all (column_kept earlier table) items && primary && nat_le (references_before earlier + references_in items) 128) tables
-    ∙ (ap (λ (b : Bool). named && is_none (table_number table cat) && nat_lt (length cat.tables) 64 && short && differ && b && primary && nat_le (references_before earlier + references_in items) 128) columns
-    ∙ ap (λ (k : ℕ). named && is_none (table_number table cat) && nat_lt (length cat.tables) 64 && short && differ && list_all (column_fits cat table) items && primary && nat_le (k + references_in items) 128) fks))
-
--- ---- one more statement
+-- ---- one more table, with its keys
 
 keys_from-push : (number : ℕ) (earlier : List Placed) (placed : Placed) → keys_from number (earlier ++ placed ∷ []) ≡ keys_from number earlier ++ statement_keys (number + length earlier) placed.statement
 keys_from-push number [] placed = rw add-zero (append-nil (statement_keys number placed.statement))
@@ -324,65 +323,118 @@ keys_from-push number (first ∷ others) placed =
     ∙ (sym (append_assoc (statement_keys number first.statement) (keys_from (number + 1) others) (statement_keys (number + 1 + length others) placed.statement))
     ∙ ap (λ (n : ℕ). (statement_keys number first.statement ++ keys_from (number + 1) others) ++ statement_keys n placed.statement) e)
 
-primary_kept : (first second more : Option (List ColumnItem)) → (has_primary second ≡ true → has_primary more ≡ true) → has_primary (option_or first second) ≡ true → has_primary (option_or first more) ≡ true
-primary_kept None second more later h = later h
-primary_kept (Some items) second more later h = h
+or_none : {A : Type 0} (o : Option A) → option_or o None ≡ o
+or_none None = refl
+or_none (Some x) = refl
 
-primary_still : (name : Text) (earlier : List Placed) (placed : Placed) → has_primary (items_named earlier name) ≡ true → has_primary (items_named (earlier ++ placed ∷ []) name) ≡ true
-primary_still name [] placed h = absurd cc
-primary_still name (first ∷ others) placed h =
-    primary_kept (created name first.statement) (items_named others name) (items_named (others ++ placed ∷ []) name) (primary_still name others placed) h
+or_later : {A : Type 0} (first second third more : Option A) → more ≡ option_or second third → option_or first more ≡ option_or (option_or first second) third
+or_later None second third more e = e
+or_later (Some x) second third more e = refl
 
-constraint_there : (earlier : List Placed) (placed : Placed) (cat : Catalog) → IsMadeBy (earlier ++ placed ∷ []) cat → (table col : Text) (constraint : Option ColumnConstraint) → constraint_kept earlier table col constraint ≡ true
-    → reference_there (λ parent. is_some (referred parent cat)) constraint ≡ true
-constraint_there earlier placed cat made table col None kept = refl
-constraint_there earlier placed cat made table col (Some PrimaryKey) kept = refl
-constraint_there earlier placed cat made table col (Some (References parent)) kept =
-    let p = and_parts (is_name parent && has_primary (items_named earlier parent)) (is_short (foreign_key_name table col)) kept in
-    let q = and_parts (is_name parent) (has_primary (items_named earlier parent)) p.0 in
-    referred_same (earlier ++ placed ∷ []) cat made parent ∙ primary_still parent earlier placed q.1
-
-columns_there : (earlier : List Placed) (placed : Placed) (cat : Catalog) → IsMadeBy (earlier ++ placed ∷ []) cat → (table : Text) (items : List ColumnItem) → list_all (column_kept earlier table) items ≡ true
-    → list_all (λ item. reference_there (λ parent. is_some (referred parent cat)) item.constraint) items ≡ true
-columns_there earlier placed cat made table [] kept = refl
-columns_there earlier placed cat made table (item ∷ items) kept =
-    let p = and_parts (column_kept earlier table item) (list_all (column_kept earlier table) items) kept in
-    let q = and_parts (is_name item.name) (constraint_kept earlier table item.name item.constraint) p.0 in
-    and_from _ _ (constraint_there earlier placed cat made table item.name item.constraint q.1) (columns_there earlier placed cat made table items p.1)
-
-columns_of_kept : (earlier : List Placed) (table : Text) (items : List ColumnItem) → create_kept earlier table items ≡ true → list_all (column_kept earlier table) items ≡ true
-columns_of_kept earlier table items kept =
-    let first : Bool = is_name table && is_none (items_named earlier table) && nat_lt (length earlier) 64 && nat_le (length items) 32 && all_differ (map (λ item. item.name) items) in
-    let a = and_parts (first && list_all (column_kept earlier table) items && nat_le (primaries_in items) 1) (nat_le (references_before earlier + references_in items) 128) kept in
-    let b = and_parts (first && list_all (column_kept earlier table) items) (nat_le (primaries_in items) 1) a.0 in
-    (and_parts first (list_all (column_kept earlier table) items) b.0).1
+items_pushed : (name : Text) (earlier : List Placed) (placed : Placed) → items_named (earlier ++ placed ∷ []) name ≡ option_or (items_named earlier name) (created name placed.statement)
+items_pushed name [] placed = or_none (created name placed.statement)
+items_pushed name (first ∷ others) placed =
+    or_later (created name first.statement) (items_named others name) (created name placed.statement) (items_named (others ++ placed ∷ []) name) (items_pushed name others placed)
 
 all_create-push : (earlier : List Placed) (placed : Placed) → list_all (λ placed. is_create placed.statement) earlier ≡ true → is_create placed.statement ≡ true → list_all (λ placed. is_create placed.statement) (earlier ++ placed ∷ []) ≡ true
 all_create-push earlier placed only new =
     list_all-append (λ (placed : Placed). is_create placed.statement) earlier (placed ∷ []) ∙ rw (only, new) refl
+
+with_keys_made : (earlier : List Placed) (cat : Catalog) (line : ℕ) (table : Text) (items : List ColumnItem) → IsMadeBy earlier cat
+    → IsMadeBy (earlier ++ record { line = line; statement = CreateTable table items } ∷ []) (with_keys cat table items)
+with_keys_made earlier cat line table items made =
+    let placed : Placed = record { line = line; statement = CreateTable table items } in
+    let number : ℕ = length cat.tables in
+    let added = keys_added number table 0 items (adds_table table items cat) in
+    let number_is : number ≡ length earlier = tables_len earlier cat made in
+    record {
+      only = all_create-push earlier placed made.only refl;
+      tables = added.tables ∙ (ap (λ (ts : List Table). ts ++ table_from (CreateTable table items) ∷ []) made.tables ∙ sym (map-append (λ (placed : Placed). table_from placed.statement) earlier (placed ∷ [])));
+      keys = added.keys_are ∙ (ap (λ (ks : List UniqueKey). ks ++ item_keys number table 0 items) made.keys
+          ∙ (ap (λ (n : ℕ). keys_from 0 earlier ++ item_keys n table 0 items) (number_is ∙ sym (zero-add (length earlier))) ∙ sym (keys_from-push 0 earlier placed)));
+    }
+
+-- ---- both keep the same
+
+record Stands (earlier : List Placed) (cat : Catalog) : Type 0 where
+  made : IsMadeBy earlier cat
+  fks : length cat.fks ≡ references_before earlier
+
+reference_same : (earlier : List Placed) (cat : Catalog) (line : ℕ) (table : Text) (items : List ColumnItem) → IsMadeBy (earlier ++ record { line = line; statement = CreateTable table items } ∷ []) cat
+    → (parent : Text) → has_primary (items_with earlier table items parent) ≡ is_some (referred parent cat)
+reference_same earlier cat line table items made parent =
+    let placed : Placed = record { line = line; statement = CreateTable table items } in
+    sym (referred_same (earlier ++ placed ∷ []) cat made parent ∙ ap (λ (o : Option (List ColumnItem)). has_primary o) (items_pushed parent earlier placed))
+
+constraint_same : (earlier : List Placed) (cat : Catalog) (line : ℕ) (table : Text) (items : List ColumnItem) → IsMadeBy (earlier ++ record { line = line; statement = CreateTable table items } ∷ []) cat
+    → (col : Text) (constraint : Option ColumnConstraint) → constraint_kept earlier table items col constraint ≡ constraint_fits cat table col constraint
+constraint_same earlier cat line table items made col None = refl
+constraint_same earlier cat line table items made col (Some PrimaryKey) = refl
+constraint_same earlier cat line table items made col (Some (References parent decl)) =
+    ap (λ (there : Bool). is_name parent && there && is_short (foreign_key_name table col)) (reference_same earlier cat line table items made parent)
+
+columns_same : (earlier : List Placed) (cat : Catalog) (line : ℕ) (table : Text) (items : List ColumnItem) → IsMadeBy (earlier ++ record { line = line; statement = CreateTable table items } ∷ []) cat
+    → (some : List ColumnItem) → list_all (column_kept earlier table items) some ≡ list_all (column_fits cat table) some
+columns_same earlier cat line table items made [] = refl
+columns_same earlier cat line table items made (item ∷ others) =
+    ap (λ (fits : Bool). (is_name item.name && fits) && list_all (column_kept earlier table items) others) (constraint_same earlier cat line table items made item.name item.constraint)
+    ∙ ap (λ (rest : Bool). column_fits cat table item && rest) (columns_same earlier cat line table items made others)
+
+create_same : (earlier : List Placed) (cat : Catalog) → Stands earlier cat → (table : Text) (items : List ColumnItem) → create_kept earlier table items ≡ can_create cat table items
+create_same earlier cat stands table items =
+    let none = sym (none_same earlier cat stands.made table) in
+    let tables = sym (tables_len earlier cat stands.made) in
+    let keyed : Catalog = with_keys cat table items in
+    let columns = columns_same earlier keyed 0 table items (with_keys_made earlier cat 0 table items stands.made) items in
+    let fks = sym stands.fks in
+    let named : Bool = is_name table in
+    let short : Bool = nat_le (length items) 32 in
+    let differ : Bool = all_differ (map (λ item. item.name) items) in
+    let primary : Bool = nat_le (primaries_in items) 1 in
+    ap (λ (a : Bool). named && a && nat_lt (length earlier) 64 && short && differ && list_all (column_kept earlier table items) items && primary && nat_le (references_before earlier + references_in items) 128) none
+    ∙ (ap (λ (n : ℕ). named && is_none (table_number table cat) && nat_lt n 64 && short && differ && list_all (column_kept earlier table items) items && primary && nat_le (references_before earlier + references_in items) 128) tables
+    ∙ (ap (λ (b : Bool). named && is_none (table_number table cat) && nat_lt (length cat.tables) 64 && short && differ && b && primary && nat_le (references_before earlier + references_in items) 128) columns
+    ∙ ap (λ (k : ℕ). named && is_none (table_number table cat) && nat_lt (length cat.tables) 64 && short && differ && list_all (column_fits keyed table) items && primary && nat_le (k + references_in items) 128) fks))
+
+-- ---- one more statement
+
+constraint_there : (earlier : List Placed) (cat : Catalog) (line : ℕ) (table : Text) (items : List ColumnItem) → IsMadeBy (earlier ++ record { line = line; statement = CreateTable table items } ∷ []) cat
+    → (col : Text) (constraint : Option ColumnConstraint) → constraint_kept earlier table items col constraint ≡ true → reference_there (λ parent. is_some (referred parent cat)) constraint ≡ true
+constraint_there earlier cat line table items made col None kept = refl
+constraint_there earlier cat line table items made col (Some PrimaryKey) kept = refl
+constraint_there earlier cat line table items made col (Some (References parent decl)) kept =
+    let p = and_parts (is_name parent && has_primary (items_with earlier table items parent)) (is_short (foreign_key_name table col)) kept in
+    let q = and_parts (is_name parent) (has_primary (items_with earlier table items parent)) p.0 in
+    sym (reference_same earlier cat line table items made parent) ∙ q.1
+
+columns_there : (earlier : List Placed) (cat : Catalog) (line : ℕ) (table : Text) (items : List ColumnItem) → IsMadeBy (earlier ++ record { line = line; statement = CreateTable table items } ∷ []) cat
+    → (some : List ColumnItem) → list_all (column_kept earlier table items) some ≡ true → list_all (λ item. reference_there (λ parent. is_some (referred parent cat)) item.constraint) some ≡ true
+columns_there earlier cat line table items made [] kept = refl
+columns_there earlier cat line table items made (item ∷ others) kept =
+    let p = and_parts (column_kept earlier table items item) (list_all (column_kept earlier table items) others) kept in
+    let q = and_parts (is_name item.name) (constraint_kept earlier table items item.name item.constraint) p.0 in
+    and_from _ _ (constraint_there earlier cat line table items made item.name item.constraint q.1) (columns_there earlier cat line table items made others p.1)
+
+columns_of_kept : (earlier : List Placed) (table : Text) (items : List ColumnItem) → create_kept earlier table items ≡ true → list_all (column_kept earlier table items) items ≡ true
+columns_of_kept earlier table items kept =
+    let first : Bool = is_name table && is_none (items_named earlier table) && nat_lt (length earlier) 64 && nat_le (length items) 32 && all_differ (map (λ item. item.name) items) in
+    let a = and_parts (first && list_all (column_kept earlier table items) items && nat_le (primaries_in items) 1) (nat_le (references_before earlier + references_in items) 128) kept in
+    let b = and_parts (first && list_all (column_kept earlier table items) items) (nat_le (primaries_in items) 1) a.0 in
+    (and_parts first (list_all (column_kept earlier table items) items) b.0).1
 
 created_stands : (earlier : List Placed) (cat : Catalog) (line : ℕ) (table : Text) (items : List ColumnItem) → Stands earlier cat → create_kept earlier table items ≡ true
     → Stands (earlier ++ record { line = line; statement = CreateTable table items } ∷ []) (creates table items cat)
 created_stands earlier cat line table items stands kept =
     let placed : Placed = record { line = line; statement = CreateTable table items } in
     let number : ℕ = length cat.tables in
-    let one : Catalog = adds_table table items cat in
-    let two : Catalog = adds_keys number table 0 items one in
-    let added = keys_added number table 0 items one in
-    let made = stands.made in
-    let number_is : number ≡ length earlier = tables_len earlier cat made in
-    let tables : two.tables ≡ tables_of (earlier ++ placed ∷ []) =
-    added.tables ∙ (ap (λ (ts : List Table). ts ++ record { name = table; cols = map column_of items } ∷ []) made.tables ∙ sym (map-append (λ (placed : Placed). table_from placed.statement) earlier (placed ∷ []))) in
-    let keys : two.keys ≡ keys_from 0 (earlier ++ placed ∷ []) =
-    added.keys_are ∙ (ap (λ (ks : List UniqueKey). ks ++ item_keys number table 0 items) made.keys
-    ∙ (ap (λ (n : ℕ). keys_from 0 earlier ++ item_keys n table 0 items) (number_is ∙ sym (zero-add (length earlier))) ∙ sym (keys_from-push 0 earlier placed))) in
-    let then : IsMadeBy (earlier ++ placed ∷ []) two = record { only = all_create-push earlier placed made.only refl; tables = tables; keys = keys } in
-    let there = columns_there earlier placed two then table items (columns_of_kept earlier table items kept) in
+    let two : Catalog = with_keys cat table items in
+    let then = with_keys_made earlier cat line table items stands.made in
+    let there = columns_there earlier two line table items then items (columns_of_kept earlier table items kept) in
     let refs = references_added number table 0 items two there in
     let sum : references_before (earlier ++ placed ∷ []) ≡ references_before earlier + references_in items = sum_by_push (λ (placed : Placed). statement_references placed.statement) earlier placed in
-    let before : length two.fks ≡ length cat.fks = ap (λ (fks : List ForeignKey). length fks) added.fks in
+    let before : length two.fks ≡ length cat.fks = ap (λ (fks : List ForeignKey). length fks) (keys_added number table 0 items (adds_table table items cat)).fks in
     record {
-      made = record { only = all_create-push earlier placed made.only refl; tables = refs.tables ∙ tables; keys = refs.keys ∙ keys };
+      made = record { only = then.only; tables = refs.tables ∙ then.tables; keys = refs.keys ∙ then.keys };
       fks = refs.fks ∙ (ap (λ (n : ℕ). n + references_in items) (before ∙ stands.fks) ∙ sym sum);
     }
 
@@ -425,12 +477,25 @@ sets_up earlier (placed ∷ others) cat stands =
         → SetsUp earlier (record { line = line; statement = statement } ∷ others) cat
     head line (CreateTable table items) later = sets_up_created earlier cat line table items others stands (later table items) (create_kept earlier table items) refl
     head line (Insert table rows) later = record { same = refl; stands = λ h. absurd cc }
+    head line (Delete table) later = record { same = refl; stands = λ h. absurd cc }
+    head line Begin later = record { same = refl; stands = λ h. absurd cc }
+    head line Commit later = record { same = refl; stands = λ h. absurd cc }
+    head line Rollback later = record { same = refl; stands = λ h. absurd cc }
 
 -- ---- sessions and scripts
+
+some_not_none : {A : Type 0} (o : Option A) → is_some o ≡ not (is_none o)
+some_not_none None = refl
+some_not_none (Some x) = refl
 
 run_same : (earlier : List Placed) (cat : Catalog) → IsMadeBy earlier cat → (statement : Statement) → run_kept earlier statement ≡ can_run cat statement
 run_same earlier cat made (CreateTable table items) = refl
 run_same earlier cat made (Insert table rows) = ap (λ (fits : Bool). is_name table && fits) (sym (rows_same earlier cat made table rows))
+run_same earlier cat made (Delete table) = ap (λ (there : Bool). is_name table && there)
+    (some_not_none (items_named earlier table) ∙ (ap (λ (b : Bool). not b) (sym (none_same earlier cat made table)) ∙ sym (some_not_none (table_number table cat))))
+run_same earlier cat made Begin = refl
+run_same earlier cat made Commit = refl
+run_same earlier cat made Rollback = refl
 
 runs_same : (earlier : List Placed) (cat : Catalog) → IsMadeBy earlier cat → (statements : List Placed)
     → list_all (λ placed. run_kept earlier placed.statement) statements ≡ list_all (λ placed. can_run cat placed.statement) statements

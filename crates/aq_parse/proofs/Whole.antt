@@ -10,7 +10,7 @@ use Rattle.aq_parse.specs.Reading.{Reads, HasNoReading, IfRefused}
 use Rattle.aq_parse.specs.Lexing.{tokens_from}
 use Rattle.aq_parse.specs.Parsing.{script_at}
 use Rattle.aq_parse.specs.Whole.{script_in}
-use Rattle.aq_parse.proofs.Facts.{bind_some, chosen, some_is, none_is_not}
+use Rattle.aq_parse.proofs.Basics.{bind_some, chosen, some_is, none_is_not}
 use Rattle.aq_parse.proofs.Lexing.{lexed_so, lexed_again}
 use Rattle.aq_parse.proofs.Sections.{script_takes, script_again}
 

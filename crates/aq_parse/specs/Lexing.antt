@@ -18,17 +18,14 @@ abbrev pub behind : (ℕ → Bool) → List ℕ → List ℕ
 behind test [] = []
 behind test (byte ∷ bytes) = if test byte then behind test bytes else byte ∷ bytes
 
--- the word with which the bytes begin, and the bytes behind it
 abbrev pub word_at : List ℕ → Token × List ℕ
 word_at bytes = (Word (map lower (front is_in_word bytes)), behind is_in_word bytes)
 
--- the integer with which the bytes begin, unless it is too large
 abbrev pub integer_at : List ℕ → Option (Token × List ℕ)
 integer_at bytes =
     if nat_le (number_of (front is_digit bytes)) 2147483647
     then Some (Integer (number_of (front is_digit bytes)), behind is_digit bytes) else None
 
--- the directive with which the bytes begin
 abbrev pub directive_at : List ℕ → Option (Token × List ℕ)
 directive_at bytes =
     if starts_with nat_eq bytes (codes "\\setup") then Some (Setup, drop 6 bytes)

@@ -3,13 +3,14 @@ use Rattle.std.specs.Prelude.{ℕ, zero, suc, pos, Bool, true, false, not, ◌==
 use Rattle.aq_base.specs.Names.{Text, same_text}
 use Rattle.aq_base.specs.Values.{Row}
 use Rattle.aq_base.specs.declared.value.Value.{Value}
-use Rattle.aq_base.specs.declared.value.Value.TheVariants.{Int}
+use Rattle.aq_base.specs.declared.value.Value.TheVariants.{Null, Int}
+use Rattle.aq_base.specs.declared.catalog.Decl.{Decl}
 use Rattle.aq_base.specs.declared.script.Kind.TheVariants as kinds
 use Rattle.aq_base.specs.declared.script.ColumnConstraint.{ColumnConstraint}
 use Rattle.aq_base.specs.declared.script.ColumnConstraint.TheVariants.{PrimaryKey, References}
 use Rattle.aq_base.specs.declared.script.ColumnItem.{ColumnItem}
 use Rattle.aq_base.specs.declared.script.Statement.{Statement}
-use Rattle.aq_base.specs.declared.script.Statement.TheVariants.{CreateTable, Insert}
+use Rattle.aq_base.specs.declared.script.Statement.TheVariants.{CreateTable, Insert, Delete, Begin, Commit, Rollback}
 use Rattle.aq_base.specs.declared.script.Placed.{Placed}
 use Rattle.aq_base.specs.declared.script.SessionText.{SessionText}
 use Rattle.aq_base.specs.declared.script.Script.{Script}
@@ -19,7 +20,6 @@ use Rattle.aq_parse.specs.declared.token.Lexed.{Lexed}
 use Rattle.aq_parse.specs.Steps.{◌>>=◌}
 use Rattle.aq_parse.specs.Grammar.{first_line}
 
--- the token is this word
 abbrev pub is_keyword : Text → Token → Bool
 is_keyword word (Word text) = same_text text word
 is_keyword word (Integer number) = false
@@ -27,7 +27,6 @@ is_keyword word (Symbol byte) = false
 is_keyword word Setup = false
 is_keyword word Session = false
 
--- the token is this symbol
 abbrev pub is_mark : ℕ → Token → Bool
 is_mark mark (Word text) = false
 is_mark mark (Integer number) = false
@@ -35,7 +34,6 @@ is_mark mark (Symbol byte) = byte == mark
 is_mark mark Setup = false
 is_mark mark Session = false
 
--- the token is `\setup`
 abbrev pub is_setup : Token → Bool
 is_setup (Word text) = false
 is_setup (Integer number) = false
@@ -43,7 +41,6 @@ is_setup (Symbol byte) = false
 is_setup Setup = true
 is_setup Session = false
 
--- the token is `\session`
 abbrev pub is_session : Token → Bool
 is_session (Word text) = false
 is_session (Integer number) = false
@@ -61,7 +58,6 @@ abbrev pub behind_one : (Token → Bool) → List Lexed → Option (List Lexed)
 behind_one test [] = None
 behind_one test (lexed ∷ rest) = if test lexed.token then Some rest else None
 
--- a word that is taken as a name
 abbrev pub name_from : Token → List Lexed → Option (Text × List Lexed)
 name_from (Word text) rest = Some (text, rest)
 name_from (Integer number) rest = None
@@ -69,20 +65,17 @@ name_from (Symbol byte) rest = None
 name_from Setup rest = None
 name_from Session rest = None
 
--- the name with which the tokens begin
 abbrev pub name_at : List Lexed → Option (Text × List Lexed)
 name_at [] = None
 name_at (lexed ∷ rest) = name_from lexed.token rest
 
--- an integer that is taken as a value
 abbrev pub value_from : Token → List Lexed → Option (Value × List Lexed)
-value_from (Word text) rest = None
+value_from (Word text) rest = if same_text text (codes "null") then Some (Null, rest) else None
 value_from (Integer number) rest = Some (Int (pos number), rest)
 value_from (Symbol byte) rest = None
 value_from Setup rest = None
 value_from Session rest = None
 
--- the value with which the tokens begin
 abbrev pub value_at : List Lexed → Option (Value × List Lexed)
 value_at [] = None
 value_at (lexed ∷ rest) = value_from lexed.token rest
@@ -105,7 +98,20 @@ listed_at element tokens =
     element tokens >>= λ first.
     repeated_at (begins_with (is_mark 44)) (next_at element) (length first.1) first.1 >>= λ others. Some (first.0 ∷ others.0, others.1)
 
--- the constraint behind a column, where there is one
+-- whether a foreign key waits for the commit
+unfoldable pub deferred_at : Bool → List Lexed → Option (Decl × List Lexed)
+deferred_at deferrable tokens =
+    if begins_with (is_keyword (codes "initially")) tokens
+    then (behind_one (is_keyword (codes "initially")) tokens >>= λ deferred.
+    behind_one (is_keyword (codes "deferred")) deferred >>= λ rest. Some (record { deferrable = true; deferred = true }, rest))
+    else Some (record { deferrable = deferrable; deferred = false }, tokens)
+
+unfoldable pub timing_at : List Lexed → Option (Decl × List Lexed)
+timing_at tokens =
+    if begins_with (is_keyword (codes "deferrable")) tokens
+    then (behind_one (is_keyword (codes "deferrable")) tokens >>= λ rest. deferred_at true rest)
+    else deferred_at false tokens
+
 unfoldable pub constraint_at : List Lexed → Option (Option ColumnConstraint × List Lexed)
 constraint_at tokens =
     if begins_with (is_keyword (codes "primary")) tokens
@@ -113,10 +119,9 @@ constraint_at tokens =
     behind_one (is_keyword (codes "key")) key >>= λ rest. Some (Some PrimaryKey, rest))
     else (if begins_with (is_keyword (codes "references")) tokens
     then (behind_one (is_keyword (codes "references")) tokens >>= λ table.
-    name_at table >>= λ parent. Some (Some (References parent.0), parent.1))
+    name_at table >>= λ parent. timing_at parent.1 >>= λ timing. Some (Some (References parent.0 timing.0), timing.1))
     else Some (None, tokens))
 
--- a column with its constraint
 unfoldable pub item_at : List Lexed → Option (ColumnItem × List Lexed)
 item_at tokens = do
   name ← name_at tokens
@@ -124,7 +129,6 @@ item_at tokens = do
   constraint ← constraint_at kind
   Some (record { name = name.0; kind = kinds.Integer; constraint = constraint.0 }, constraint.1)
 
--- values in parentheses
 unfoldable pub row_at : List Lexed → Option (Row × List Lexed)
 row_at tokens = do
   inside ← behind_one (is_mark 40) tokens
@@ -132,7 +136,6 @@ row_at tokens = do
   rest ← behind_one (is_mark 41) values.1
   Some (values.0, rest)
 
--- CREATE TABLE
 unfoldable pub create_at : List Lexed → Option (Statement × List Lexed)
 create_at tokens = do
   word ← behind_one (is_keyword (codes "create")) tokens
@@ -143,7 +146,6 @@ create_at tokens = do
   rest ← behind_one (is_mark 41) items.1
   Some (CreateTable table.0 items.0, rest)
 
--- INSERT
 unfoldable pub insert_at : List Lexed → Option (Statement × List Lexed)
 insert_at tokens = do
   word ← behind_one (is_keyword (codes "insert")) tokens
@@ -153,9 +155,29 @@ insert_at tokens = do
   rows ← listed_at row_at values
   Some (Insert table.0 rows.0, rows.1)
 
--- CREATE TABLE where the tokens begin with CREATE, else INSERT
+unfoldable pub delete_at : List Lexed → Option (Statement × List Lexed)
+delete_at tokens = do
+  word ← behind_one (is_keyword (codes "delete")) tokens
+  named ← behind_one (is_keyword (codes "from")) word
+  table ← name_at named
+  Some (Delete table.0, table.1)
+
+-- a statement of one word
+abbrev pub one_word_at : Text → Statement → List Lexed → Option (Statement × List Lexed)
+one_word_at word statement tokens = behind_one (is_keyword word) tokens >>= λ rest. Some (statement, rest)
+
+-- a statement that begins or ends a transaction block
+unfoldable pub block_at : List Lexed → Option (Statement × List Lexed)
+block_at tokens =
+    if begins_with (is_keyword (codes "begin")) tokens then one_word_at (codes "begin") Begin tokens
+    else (if begins_with (is_keyword (codes "commit")) tokens then one_word_at (codes "commit") Commit tokens
+    else one_word_at (codes "rollback") Rollback tokens)
+
 unfoldable pub statement_at : List Lexed → Option (Statement × List Lexed)
-statement_at tokens = if begins_with (is_keyword (codes "create")) tokens then create_at tokens else insert_at tokens
+statement_at tokens =
+    if begins_with (is_keyword (codes "create")) tokens then create_at tokens
+    else (if begins_with (is_keyword (codes "insert")) tokens then insert_at tokens
+    else (if begins_with (is_keyword (codes "delete")) tokens then delete_at tokens else block_at tokens))
 
 -- a statement with its `;`
 unfoldable pub placed_at : List Lexed → Option (Placed × List Lexed)
@@ -170,11 +192,9 @@ abbrev pub goes_on : List Lexed → Bool
 goes_on [] = false
 goes_on (lexed ∷ rest) = not (is_session lexed.token)
 
--- statements up to the end or to a session
 abbrev pub statements_at : List Lexed → Option (List Placed × List Lexed)
 statements_at tokens = repeated_at goes_on placed_at (length tokens) tokens
 
--- the statements of the setup section, where there is one
 unfoldable pub setup_at : List Lexed → Option (List Placed × List Lexed)
 setup_at tokens =
     if begins_with is_setup tokens then (behind_one is_setup tokens >>= λ rest. statements_at rest) else Some ([], tokens)
@@ -184,7 +204,6 @@ abbrev pub ended : {A : Type 0} → A → List Lexed → Option A
 ended x [] = Some x
 ended x (lexed ∷ rest) = None
 
--- a session that ends with the script
 unfoldable pub session_at : List Lexed → Option SessionText
 session_at tokens = do
   named ← behind_one is_session tokens
@@ -192,12 +211,10 @@ session_at tokens = do
   statements ← statements_at name.1
   ended (record { name = name.0; statements = statements.0 }) statements.1
 
--- the session, where there is one
 abbrev pub sessions_at : List Lexed → Option (List SessionText)
 sessions_at [] = Some []
 sessions_at (lexed ∷ rest) = session_at (lexed ∷ rest) >>= λ session. Some (session ∷ [])
 
--- the setup section and the session, and nothing else
 unfoldable pub script_at : List Lexed → Option Script
 script_at tokens = do
   setup ← setup_at tokens

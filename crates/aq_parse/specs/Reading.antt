@@ -1,4 +1,4 @@
--- When bytes are a script of the first language, and what is said of bytes that are none.
+-- When bytes are a script of the language that is built, and what is said of bytes that are none.
 use Rattle.std.specs.Prelude.{◌≡◌, ℕ, true, List, None, codes}
 use Rattle.aq_base.specs.Scripts.{fits_first_language}
 use Rattle.aq_base.specs.declared.fault.SqlFault.{SqlFault}
@@ -20,7 +20,7 @@ pub record Reads (bytes : List ℕ) (script : Script) : Type 0 where
 abbrev pub HasNoReading : List ℕ → Type 0
 HasNoReading bytes = (script : Script) → Reads bytes script → ⊥
 
--- the fault of a script that is not of the first language
+-- the fault of a script that is not of the language that is built
 abbrev pub not_built : SqlFault
 not_built = record { code = record { 0 = codes "0A000" }; text = codes "this form is not built"; detail = None }
 

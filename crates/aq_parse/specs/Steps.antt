@@ -3,7 +3,6 @@ use Rattle.std.specs.Prelude.{◌≡◌, Option, Some, None, Result, Ok, Err, op
 use Rattle.aq_parse.specs.declared.fault.ReadFault.{ReadFault}
 use Rattle.aq_parse.specs.declared.fault.ReadFault.TheVariants.{NoMemory, NotBuilt}
 
--- a step that goes on from what was given, where something was
 infixl 10 ◌>>=◌
 abbrev pub ◌>>=◌ : {A B : Type 0} → Option A → (A → Option B) → Option B
 o >>= f = option_and_then f o

@@ -18,7 +18,6 @@ is_blank byte = byte == 32 || byte == 9 || byte == 13 || byte == 10
 abbrev pub is_symbol : ℕ → Bool
 is_symbol byte = byte == 40 || byte == 41 || byte == 44 || byte == 59
 
--- `0` to `9`
 abbrev pub is_digit : ℕ → Bool
 is_digit byte = is_between 48 57 byte
 
@@ -56,7 +55,6 @@ pub record Place : Type 0 where
   pub line : ℕ
   pub is_first : Bool
 
--- where a script begins
 abbrev pub beginning : Place
 beginning = record { line = 1; is_first = true }
 
@@ -64,7 +62,6 @@ beginning = record { line = 1; is_first = true }
 abbrev pub behind_blank : ℕ → Place → Place
 behind_blank byte place = if byte == 10 then record { line = place.line + 1; is_first = true } else place
 
--- a token leaves its line begun
 abbrev pub behind_token : Place → Place
 behind_token place = record { line = place.line; is_first = false }
 

@@ -7,7 +7,6 @@ use Rattle.aq_parse.specs.Tokens.{beginning}
 use Rattle.aq_parse.specs.Lexing.{tokens_from}
 use Rattle.aq_parse.specs.Parsing.{script_at}
 
--- the script that the bytes are, where they are one
 unfoldable pub script_in : List ℕ → Option Script
 script_in bytes = do
   tokens ← tokens_from 0 beginning bytes

@@ -4,8 +4,9 @@ ghost use Rattle.std.specs.Prelude.{◌≡◌, ◌-◌, ◌^◌, [], Some, map, 
 ghost use Rattle.std.specs.List.{list_all, list_any};
 ghost use Rattle.std.specs.Option.{option_copied};
 ghost use Rattle.aq_base.specs.Names.{same_text, is_short, is_apart_from, all_differ, primary_key_name, foreign_key_name};
-ghost use Rattle.aq_base.specs.Scripts.{is_primary, is_reference, rows_in, rows_in_session, fits_first_language};
-ghost use Rattle.aq_parse.specs.Conditions.{items_named, primaries_in, references_in, has_primary, constraint_kept, column_kept, statement_references, references_before, create_kept, definition_kept, setup_kept, rows_kept, run_kept, session_kept, statements_in, script_kept};
+ghost use Rattle.aq_base.specs.Setup.{is_primary};
+ghost use Rattle.aq_base.specs.Scripts.{is_reference, rows_in, rows_in_session, fits_first_language};
+ghost use Rattle.aq_parse.specs.Conditions.{items_named, primaries_in, references_in, has_primary, items_with, constraint_kept, column_kept, statement_references, references_before, create_kept, definition_kept, setup_kept, rows_kept, run_kept, session_kept, statements_in, script_kept};
 
 use crate::names::{is_name, same_text};
 use aq_base::{
@@ -58,13 +59,34 @@ fn any_primary(items: &[ColumnItem]) -> bool
     items.iter().any(|item| is_primary(item))
 }
 
-/// Whether the first table of a name has a primary key.
-fn has_primary(earlier: &[Placed], name: &TextVal) -> bool
-    ensures { result ≡ has_primary (items_named earlier.now name.now) }
+/// The columns of the first table of a name, where a table comes next.
+fn items_with<'a>(
+    earlier: &'a [Placed],
+    table: &TextVal,
+    items: &'a List<ColumnItem>,
+    name: &TextVal,
+) -> Option<&'a List<ColumnItem>>
+    ensures { option_copied result ≡ items_with earlier.now table.now items.now name.now }
 {
     match items_named(earlier, name) {
+        Some(found) => Some(found),
+        None if same_text(table.bytes(), name.bytes()) => Some(items),
+        None => None,
+    }
+}
+
+/// Whether the first table of a name has a primary key, where a table comes next.
+fn has_primary(
+    earlier: &[Placed],
+    table: &TextVal,
+    items: &List<ColumnItem>,
+    name: &TextVal,
+) -> bool
+    ensures { result ≡ has_primary (items_with earlier.now table.now items.now name.now) }
+{
+    match items_with(earlier, table, items, name) {
         None => false,
-        Some(items) => any_primary(items.as_slice()),
+        Some(found) => any_primary(found.as_slice()),
     }
 }
 
@@ -84,30 +106,41 @@ fn foreign_key_is_short(table: &TextVal, col: &TextVal) -> bool
 fn constraint_kept(
     earlier: &[Placed],
     table: &TextVal,
+    items: &List<ColumnItem>,
     col: &TextVal,
     constraint: &Option<ColumnConstraint>,
 ) -> bool
-    ensures { result ≡ constraint_kept earlier.now table.now col.now constraint.now }
+    ensures { result ≡ constraint_kept earlier.now table.now items.now col.now constraint.now }
 {
     match constraint {
         None => true,
         Some(ColumnConstraint::PrimaryKey) => primary_key_is_short(table),
-        Some(ColumnConstraint::References { table: parent }) => {
-            is_name(parent) && has_primary(earlier, parent) && foreign_key_is_short(table, col)
+        Some(ColumnConstraint::References { table: parent, .. }) => {
+            is_name(parent)
+                && has_primary(earlier, table, items, parent)
+                && foreign_key_is_short(table, col)
         }
     }
 }
 
-fn column_kept(earlier: &[Placed], table: &TextVal, item: &ColumnItem) -> bool
-    ensures { result ≡ column_kept earlier.now table.now item.now }
+fn column_kept(
+    earlier: &[Placed],
+    table: &TextVal,
+    items: &List<ColumnItem>,
+    item: &ColumnItem,
+) -> bool
+    ensures { result ≡ column_kept earlier.now table.now items.now item.now }
 {
-    is_name(&item.name) && constraint_kept(earlier, table, &item.name, &item.constraint)
+    is_name(&item.name) && constraint_kept(earlier, table, items, &item.name, &item.constraint)
 }
 
-fn columns_kept(earlier: &[Placed], table: &TextVal, items: &[ColumnItem]) -> bool
-    ensures { result ≡ list_all (column_kept earlier.now table.now) items.now }
+fn columns_kept(earlier: &[Placed], table: &TextVal, items: &List<ColumnItem>) -> bool
+    ensures { result ≡ list_all (column_kept earlier.now table.now items.now) items.now }
 {
-    items.iter().all(|item| column_kept(earlier, table, item))
+    items
+        .as_slice()
+        .iter()
+        .all(|item| column_kept(earlier, table, items, item))
 }
 
 fn any_named(items: &[ColumnItem], name: &TextVal) -> bool
@@ -143,7 +176,7 @@ fn statement_references(statement: &Statement) -> usize
 {
     match statement {
         Statement::CreateTable { items, .. } => references_in(items.as_slice()),
-        Statement::Insert { .. } => 0,
+        _ => 0,
     }
 }
 
@@ -158,25 +191,25 @@ fn references_before(earlier: &[Placed]) -> usize
     total
 }
 
-fn create_kept(earlier: &[Placed], table: &TextVal, items: &[ColumnItem]) -> bool
+fn create_kept(earlier: &[Placed], table: &TextVal, items: &List<ColumnItem>) -> bool
     ensures { result ≡ create_kept earlier.now table.now items.now }
 {
     is_name(table)
         && items_named(earlier, table).is_none()
         && earlier.len() < 64
         && items.len() <= 32
-        && names_differ(items)
+        && names_differ(items.as_slice())
         && columns_kept(earlier, table, items)
-        && primaries_in(items) <= 1
-        && references_before(earlier).saturating_add(references_in(items)) <= 128
+        && primaries_in(items.as_slice()) <= 1
+        && references_before(earlier).saturating_add(references_in(items.as_slice())) <= 128
 }
 
 fn definition_kept(earlier: &[Placed], statement: &Statement) -> bool
     ensures { result ≡ definition_kept earlier.now statement.now }
 {
     match statement {
-        Statement::CreateTable { table, items } => create_kept(earlier, table, items.as_slice()),
-        Statement::Insert { .. } => false,
+        Statement::CreateTable { table, items } => create_kept(earlier, table, items),
+        _ => false,
     }
 }
 
@@ -209,6 +242,8 @@ fn run_kept(setup: &[Placed], statement: &Statement) -> bool
                     Some(items) => rows_kept(items, rows.as_slice()),
                 }
         }
+        Statement::Delete { table } => is_name(table) && items_named(setup, table).is_some(),
+        Statement::Begin | Statement::Commit | Statement::Rollback => true,
     }
 }
 
@@ -230,8 +265,8 @@ fn rows_in(statement: &Statement) -> usize
     ensures { result ≡ rows_in statement.now }
 {
     match statement {
-        Statement::CreateTable { .. } => 0,
         Statement::Insert { rows, .. } => rows.len(),
+        _ => 0,
     }
 }
 
@@ -283,7 +318,7 @@ fn script_kept(script: &Script) -> bool
         && sessions_kept(script.setup.as_slice(), script.sessions.as_slice())
 }
 
-/// Whether a script keeps the names and limits of the first language.
+/// Whether a script keeps the names and limits of the language.
 #[tactic(auto, using(crate::proofs::Stands::script_kept_is))]
 pub fn fits_first_language(script: &Script) -> bool
     ensures { result ≡ fits_first_language script.now }

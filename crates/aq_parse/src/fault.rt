@@ -23,7 +23,7 @@ pub enum ScriptFault {
 pub enum ReadFault {
     /// Memory ran out.
     NoMemory,
-    /// The part is not of the first language.
+    /// The part is not of the language that is built.
     NotBuilt,
 }
 

@@ -1,4 +1,4 @@
-//! Scripts of the first language, from their bytes.
+//! Scripts of the language that is built, from their bytes.
 #![tactic(auto)]
 
 mod bytes;

@@ -3,13 +3,13 @@
 ghost use Rattle.std.specs.Prelude.{◌≡◌};
 ghost use Rattle.aq_parse.specs.Steps.{Gives};
 ghost use Rattle.aq_parse.specs.Grammar.{first_line};
-ghost use Rattle.aq_parse.specs.Parsing.{is_keyword, is_mark, is_setup, is_session, begins_with, behind_one, name_at, value_at, listed_at, constraint_at, item_at, row_at, create_at, insert_at, statement_at, placed_at, goes_on, statements_at, setup_at, session_at, sessions_at, script_at};
+ghost use Rattle.aq_parse.specs.Parsing.{is_keyword, is_mark, is_setup, is_session, begins_with, behind_one, name_at, value_at, listed_at, deferred_at, timing_at, constraint_at, item_at, row_at, create_at, insert_at, delete_at, one_word_at, block_at, statement_at, placed_at, goes_on, statements_at, setup_at, session_at, sessions_at, script_at};
 
 use crate::fault::ReadFault;
 use crate::token::{Lexed, Token};
 use aq_base::{
-    ColumnConstraint, ColumnItem, Copies, Kind, List, Placed, Row, Script, SessionText, Statement,
-    TextVal, Value,
+    ColumnConstraint, ColumnItem, Copies, Decl, Kind, List, Placed, Row, Script, SessionText,
+    Statement, TextVal, Value,
 };
 use std::alloc::Global;
 
@@ -95,7 +95,8 @@ fn value(tokens: &[Lexed]) -> Read<'_, Value>
                 ..
             },
             rest @ ..,
-        ] => { Ok((Value::Int(i64::from(*number)), rest)) }
+        ] => Ok((Value::Int(i64::from(*number)), rest)),
+        [first, rest @ ..] if is_keyword(&first.token, b"null") => Ok((Value::Null, rest)),
         _ => Err(ReadFault::NotBuilt),
     }
 }
@@ -142,6 +143,39 @@ fn rows(alloc: Global, tokens: &[Lexed]) -> Read<'_, List<Row>>
     Ok((rows, rest))
 }
 
+/// Whether a foreign key waits for the commit, after `DEFERRABLE` or its absence.
+#[tactic(auto, unfolding(crate::specs::Parsing::deferred_at))]
+fn deferred(deferrable: bool, tokens: &[Lexed]) -> Read<'_, Decl>
+    ensures { Gives (λ found. (found.0, found.1.now)) result (deferred_at deferrable tokens.now) }
+{
+    if begins_with_keyword(tokens, b"initially") {
+        let rest = behind_keyword(tokens, b"initially")?;
+        let rest = behind_keyword(rest, b"deferred")?;
+        let decl = Decl {
+            deferrable: true,
+            deferred: true,
+        };
+        return Ok((decl, rest));
+    }
+    let decl = Decl {
+        deferrable,
+        deferred: false,
+    };
+    Ok((decl, tokens))
+}
+
+/// When a foreign key is checked: at the end of the statement where nothing is said.
+#[tactic(auto, unfolding(crate::specs::Parsing::timing_at))]
+fn timing(tokens: &[Lexed]) -> Read<'_, Decl>
+    ensures { Gives (λ found. (found.0, found.1.now)) result (timing_at tokens.now) }
+{
+    if begins_with_keyword(tokens, b"deferrable") {
+        let rest = behind_keyword(tokens, b"deferrable")?;
+        return deferred(true, rest);
+    }
+    deferred(false, tokens)
+}
+
 /// The constraint of a column, where there is one.
 #[tactic(auto, unfolding(crate::specs::Parsing::constraint_at))]
 fn constraint(tokens: &[Lexed]) -> Read<'_, Option<ColumnConstraint>>
@@ -155,7 +189,8 @@ fn constraint(tokens: &[Lexed]) -> Read<'_, Option<ColumnConstraint>>
     if begins_with_keyword(tokens, b"references") {
         let rest = behind_keyword(tokens, b"references")?;
         let (table, rest) = name(rest)?;
-        return Ok((Some(ColumnConstraint::References { table }), rest));
+        let (decl, rest) = timing(rest)?;
+        return Ok((Some(ColumnConstraint::References { table, decl }), rest));
     }
     Ok((None, tokens))
 }
@@ -219,14 +254,45 @@ fn insert(alloc: Global, tokens: &[Lexed]) -> Read<'_, Statement>
     Ok((Statement::Insert { table, rows }, rest))
 }
 
+#[tactic(auto, unfolding(crate::specs::Parsing::delete_at))]
+fn delete(tokens: &[Lexed]) -> Read<'_, Statement>
+    ensures { Gives (λ found. (found.0, found.1.now)) result (delete_at tokens.now) }
+{
+    let rest = behind_keyword(tokens, b"delete")?;
+    let rest = behind_keyword(rest, b"from")?;
+    let (table, rest) = name(rest)?;
+    Ok((Statement::Delete { table }, rest))
+}
+
+/// A statement that begins or ends a transaction block.
+#[tactic(auto, unfolding(crate::specs::Parsing::block_at))]
+fn block(tokens: &[Lexed]) -> Read<'_, Statement>
+    ensures { Gives (λ found. (found.0, found.1.now)) result (block_at tokens.now) }
+{
+    if begins_with_keyword(tokens, b"begin") {
+        let rest = behind_keyword(tokens, b"begin")?;
+        return Ok((Statement::Begin, rest));
+    }
+    if begins_with_keyword(tokens, b"commit") {
+        let rest = behind_keyword(tokens, b"commit")?;
+        return Ok((Statement::Commit, rest));
+    }
+    let rest = behind_keyword(tokens, b"rollback")?;
+    Ok((Statement::Rollback, rest))
+}
+
 #[tactic(auto, unfolding(crate::specs::Parsing::statement_at))]
 fn statement(alloc: Global, tokens: &[Lexed]) -> Read<'_, Statement>
     ensures { Gives (λ found. (found.0, found.1.now)) result (statement_at tokens.now) }
 {
     if begins_with_keyword(tokens, b"create") {
         create_table(alloc, tokens)
-    } else {
+    } else if begins_with_keyword(tokens, b"insert") {
         insert(alloc, tokens)
+    } else if begins_with_keyword(tokens, b"delete") {
+        delete(tokens)
+    } else {
+        block(tokens)
     }
 }
 

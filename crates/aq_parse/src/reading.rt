@@ -44,9 +44,9 @@ fn refusal(alloc: Global) -> ScriptFault
     }
 }
 
-/// The script that the bytes are, by the grammar of the first language: CREATE TABLE in the setup
-/// section, INSERT in at most one session, and no schedule section. A refusal says nothing of the
-/// place: its line is always 1.
+/// The script that the bytes are, by the grammar of the language that is built: CREATE TABLE in the
+/// setup section, INSERT, DELETE, BEGIN, COMMIT and ROLLBACK in at most one session, and no schedule
+/// section. A refusal says nothing of the place: its line is always 1.
 #[tactic(auto, using(crate::proofs::Whole::read_so))]
 pub fn read_script(alloc: Global, bytes: &[u8]) -> Result<Script, ScriptFault>
     ensures read { IfOk result (λ script. Reads bytes.now script) }

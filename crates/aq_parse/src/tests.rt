@@ -1,5 +1,5 @@
 use super::*;
-use aq_base::{Statement, Value};
+use aq_base::{ColumnConstraint, Script, Statement, Value};
 use std::test::*;
 
 const ROW_TWO: &[u8] =
@@ -28,7 +28,6 @@ fn reads_row_two(rt: HostRuntime) -> Result<(), Fail> {
 
 #[test]
 fn reads_no_bytes(rt: HostRuntime) -> Result<(), Fail> {
-    one_reading();
     let script = read_script(rt.alloc(), b"").ok().ok_or("refused")?;
     assert!(rt; script.setup.is_empty() && script.sessions.is_empty() && script.schedule.is_none());
     Ok(())
@@ -47,6 +46,59 @@ fn reads_letters_of_either_case(rt: HostRuntime) -> Result<(), Fail> {
 }
 
 #[test]
+fn reads_deletes_and_blocks(rt: HostRuntime) -> Result<(), Fail> {
+    let bytes =
+        b"\\setup CREATE TABLE t (up integer REFERENCES t, id integer PRIMARY KEY);\n\\session a\nBEGIN; delete FROM t;\nINSERT INTO t VALUES (Null, 1); COMMIT;\nROLLBACK;";
+    let script = read_script(rt.alloc(), bytes).ok().ok_or("refused")?;
+    let session = script.sessions.get(0).ok_or("no session")?;
+    let [first, second, third, fourth, fifth] = session.statements.as_slice() else {
+        return Err("not five statements".into());
+    };
+    assert!(rt; matches!(&first.statement, Statement::Begin));
+    assert!(rt; matches!(&fourth.statement, Statement::Commit));
+    assert!(rt; matches!(&fifth.statement, Statement::Rollback));
+    assert_eq!(rt; (first.line, third.line, fifth.line), (3, 4, 5));
+    let Statement::Delete { table } = &second.statement else {
+        return Err("no DELETE".into());
+    };
+    assert!(rt; table.as_str() == "t");
+    let Statement::Insert { rows, .. } = &third.statement else {
+        return Err("no INSERT".into());
+    };
+    let row = rows.get(0).ok_or("no row")?;
+    assert!(rt; matches!(row.as_slice(), [Value::Null, Value::Int(1)]));
+    Ok(())
+}
+
+/// Whether each column of a script's second table refers to a table: deferrable, and deferred.
+fn timings(script: &Script) -> Option<[(bool, bool); 4]> {
+    let Statement::CreateTable { items, .. } = &script.setup.get(1)?.statement else {
+        return None;
+    };
+    let mut timings = [(false, false); 4];
+    for (timing, item) in timings.iter_mut().zip(items.as_slice()) {
+        let Some(ColumnConstraint::References { decl, .. }) = &item.constraint else {
+            return None;
+        };
+        *timing = (decl.deferrable, decl.deferred);
+    }
+    Some(timings)
+}
+
+#[test]
+fn reads_timings(rt: HostRuntime) -> Result<(), Fail> {
+    let bytes =
+        b"\\setup CREATE TABLE p (id integer PRIMARY KEY); CREATE TABLE c (a integer REFERENCES p, b integer REFERENCES p DEFERRABLE, c integer REFERENCES p INITIALLY DEFERRED, d integer REFERENCES p DEFERRABLE INITIALLY DEFERRED);";
+    let script = read_script(rt.alloc(), bytes).ok().ok_or("refused")?;
+    let timings = timings(&script).ok_or("no references")?;
+    assert_eq!(rt;
+        timings,
+        [(false, false), (true, false), (true, true), (true, true)]
+    );
+    Ok(())
+}
+
+#[test]
 fn refuses(rt: HostRuntime) {
     for bytes in [
         b"\\session a DELETE FROM p;".as_slice(),
@@ -56,6 +108,11 @@ fn refuses(rt: HostRuntime) {
         b"\\setup\\session a",
         b"\\SETUP",
         b"\\setup CREATE TABLE c (pid integer REFERENCES p);",
+        b"\\setup CREATE TABLE c (pid integer REFERENCES c);",
+        b"\\setup CREATE TABLE p (id integer PRIMARY KEY, up integer REFERENCES p NOT DEFERRABLE);",
+        b"\\setup CREATE TABLE p (id integer PRIMARY KEY, up integer REFERENCES p INITIALLY IMMEDIATE);",
+        b"\\setup CREATE TABLE p (id integer);\n\\session a COMMIT WORK;",
+        b"\\setup CREATE TABLE p (id integer); DELETE FROM p;",
     ] {
         assert!(rt;
             matches!(

@@ -6,10 +6,12 @@ use Rattle.aq_base.specs.Values.{Row}
 use Rattle.aq_base.specs.Names.{Text}
 use Rattle.aq_base.specs.Setup.{program_of}
 use Rattle.aq_base.specs.Scripts.{fits_first_language}
-use Rattle.aq_base.specs.declared.value.Value.TheVariants.{Int}
+use Rattle.aq_base.specs.declared.value.Value.TheVariants.{Null, Int}
+use Rattle.aq_base.specs.declared.catalog.Decl.{Decl}
 use Rattle.aq_base.specs.declared.script.Kind.TheVariants.{Integer}
 use Rattle.aq_base.specs.declared.script.ColumnConstraint.TheVariants.{PrimaryKey, References}
-use Rattle.aq_base.specs.declared.script.Statement.TheVariants.{CreateTable, Insert}
+use Rattle.aq_base.specs.declared.script.Statement.{Statement}
+use Rattle.aq_base.specs.declared.script.Statement.TheVariants.{CreateTable, Insert, Delete, Begin, Commit, Rollback}
 use Rattle.aq_base.specs.declared.script.Placed.{Placed}
 use Rattle.aq_base.specs.declared.script.Script.{Script}
 use Rattle.aq_run.specs.Effects.{effect}
@@ -17,11 +19,18 @@ use Rattle.aq_run.specs.Steps.{plan_of, effects_of, step}
 use Rattle.aq_run.specs.Runs.{run_from, run, have_all_ended}
 use Rattle.aq_run.specs.Texts.{line, text}
 
+-- a constraint that is checked at the end of the statement, and one that waits for COMMIT
+abbrev at_once : Decl
+at_once = record { deferrable = false; deferred = false }
+
+abbrev at_commit : Decl
+at_commit = record { deferrable = true; deferred = true }
+
 -- CREATE TABLE p (id integer PRIMARY KEY); CREATE TABLE c (pid integer REFERENCES p);
 abbrev parent_and_child : List Placed
 parent_and_child =
     record { line = 1; statement = CreateTable (codes "p") (record { name = codes "id"; kind = Integer; constraint = Some PrimaryKey } ∷ []) }
-    ∷ record { line = 1; statement = CreateTable (codes "c") (record { name = codes "pid"; kind = Integer; constraint = Some (References (codes "p")) } ∷ []) } ∷ []
+    ∷ record { line = 1; statement = CreateTable (codes "c") (record { name = codes "pid"; kind = Integer; constraint = Some (References (codes "p") at_once) } ∷ []) } ∷ []
 
 abbrev ints : List ℕ → Row
 ints ns = map (λ n. Int (pos n)) ns
@@ -94,7 +103,7 @@ two_parents =
     one_session
     (record { line = 1; statement = CreateTable (codes "p") (record { name = codes "id"; kind = Integer; constraint = Some PrimaryKey } ∷ []) }
     ∷ record { line = 1; statement = CreateTable (codes "q") (record { name = codes "v"; kind = Integer; constraint = None } ∷ record { name = codes "k"; kind = Integer; constraint = Some PrimaryKey } ∷ []) }
-    ∷ record { line = 1; statement = CreateTable (codes "c") (record { name = codes "a"; kind = Integer; constraint = Some (References (codes "p")) } ∷ record { name = codes "b"; kind = Integer; constraint = Some (References (codes "q")) } ∷ []) } ∷ [])
+    ∷ record { line = 1; statement = CreateTable (codes "c") (record { name = codes "a"; kind = Integer; constraint = Some (References (codes "p") at_once) } ∷ record { name = codes "b"; kind = Integer; constraint = Some (References (codes "q") at_once) } ∷ []) } ∷ [])
     (insert (codes "p") ((1 ∷ []) ∷ []) ∷ insert (codes "q") ((5 ∷ 2 ∷ []) ∷ []) ∷ insert (codes "c") ((1 ∷ 2 ∷ []) ∷ (1 ∷ 5 ∷ []) ∷ []) ∷ insert (codes "c") ((1 ∷ 2 ∷ []) ∷ []) ∷ [])
 
 two_parents-text : step_by_step two_parents (replicate 28 0)
@@ -122,3 +131,104 @@ repeated_key-ends = refl
 repeated_key-not_before : have_all_ended (run (program_of repeated_key) (replicate 9 0)) ≡ false
 unfolding run_from step effect effects_of plan_of
 repeated_key-not_before = refl
+
+-- ---- blocks, deferred checks, deletes and nulls
+
+abbrev plain : Statement → Placed
+plain statement = record { line = 1; statement = statement }
+
+abbrev deferred_child : List Placed
+deferred_child =
+    plain (CreateTable (codes "p") (record { name = codes "id"; kind = Integer; constraint = Some PrimaryKey } ∷ []))
+    ∷ plain (CreateTable (codes "c") (record { name = codes "pid"; kind = Integer; constraint = Some (References (codes "p") at_commit) } ∷ [])) ∷ []
+
+-- a table that refers to itself
+abbrev tree : Script
+tree =
+    one_session
+    (plain (CreateTable (codes "node") (record { name = codes "id"; kind = Integer; constraint = Some PrimaryKey } ∷ record { name = codes "up"; kind = Integer; constraint = Some (References (codes "node") at_once) } ∷ [])) ∷ [])
+    (plain (Insert (codes "node") ((Int (pos 1) ∷ Null ∷ []) ∷ (Int (pos 2) ∷ Int (pos 1) ∷ []) ∷ [])) ∷ plain (Delete (codes "node")) ∷ [])
+
+tree-fits : fits_first_language tree ≡ true
+tree-fits = refl
+
+tree-text : step_by_step tree (replicate 19 0)
+    ≡ line (codes "a.1: INSERT 0 2") ++ line (codes "a.2: DELETE 2") ++ line (codes "table node (id, up)") ++ line (codes "schedule a*19")
+unfolding run_from step effect effects_of plan_of digits
+tree-text = refl
+
+tree-not_before : have_all_ended (run (program_of tree) (replicate 18 0)) ≡ false
+unfolding run_from step effect effects_of plan_of
+tree-not_before = refl
+
+-- a deferred check fires at COMMIT, and its error is COMMIT's reply
+abbrev late_parent : Script
+late_parent =
+    one_session deferred_child
+    (plain Begin ∷ insert (codes "c") ((1 ∷ []) ∷ []) ∷ insert (codes "p") ((1 ∷ []) ∷ []) ∷ plain Commit
+    ∷ plain Begin ∷ insert (codes "c") ((9 ∷ []) ∷ []) ∷ plain Commit ∷ [])
+
+late_parent-text : step_by_step late_parent (replicate 22 0)
+    ≡ line (codes "a.1: BEGIN") ++ line (codes "a.2: INSERT 0 1") ++ line (codes "a.3: INSERT 0 1") ++ line (codes "a.4: COMMIT")
+    ++ line (codes "a.5: BEGIN") ++ line (codes "a.6: INSERT 0 1")
+    ++ line (codes "a.7: ERROR 23503 insert or update on table \"c\" violates foreign key constraint \"c_pid_fkey\"")
+    ++ line (codes "a.7: DETAIL Key (pid)=(9) is not present in table \"p\".")
+    ++ line (codes "table p (id)") ++ line (codes "(1)") ++ line (codes "table c (pid)") ++ line (codes "(1)") ++ line (codes "schedule a*22")
+unfolding run_from step effect effects_of plan_of digits
+late_parent-text = refl
+
+late_parent-not_before : have_all_ended (run (program_of late_parent) (replicate 21 0)) ≡ false
+unfolding run_from step effect effects_of plan_of
+late_parent-not_before = refl
+
+-- the check of a row that was deleted since is skipped
+abbrev deleted_child : Script
+deleted_child = one_session deferred_child (plain Begin ∷ insert (codes "c") ((7 ∷ []) ∷ []) ∷ plain (Delete (codes "c")) ∷ plain Commit ∷ [])
+
+deleted_child-text : step_by_step deleted_child (replicate 14 0)
+    ≡ line (codes "a.1: BEGIN") ++ line (codes "a.2: INSERT 0 1") ++ line (codes "a.3: DELETE 1") ++ line (codes "a.4: COMMIT")
+    ++ line (codes "table p (id)") ++ line (codes "table c (pid)") ++ line (codes "schedule a*14")
+unfolding run_from step effect effects_of plan_of digits
+deleted_child-text = refl
+
+deleted_child-not_before : have_all_ended (run (program_of deleted_child) (replicate 13 0)) ≡ false
+unfolding run_from step effect effects_of plan_of
+deleted_child-not_before = refl
+
+-- the states of a block
+abbrev block_states : Script
+block_states =
+    one_session (plain (CreateTable (codes "p") (record { name = codes "id"; kind = Integer; constraint = Some PrimaryKey } ∷ [])) ∷ [])
+    (plain Commit ∷ plain Begin ∷ plain Begin ∷ insert (codes "p") ((1 ∷ []) ∷ []) ∷ insert (codes "p") ((1 ∷ []) ∷ []) ∷ plain (Delete (codes "p"))
+    ∷ plain Rollback ∷ plain Rollback ∷ [])
+
+block_states-text : step_by_step block_states (replicate 13 0)
+    ≡ line (codes "a.1: WARNING 25P01 there is no transaction in progress") ++ line (codes "a.1: COMMIT") ++ line (codes "a.2: BEGIN")
+    ++ line (codes "a.3: WARNING 25001 there is already a transaction in progress") ++ line (codes "a.3: BEGIN") ++ line (codes "a.4: INSERT 0 1")
+    ++ line (codes "a.5: ERROR 23505 duplicate key value violates unique constraint \"p_pkey\"")
+    ++ line (codes "a.5: DETAIL Key (id)=(1) already exists.")
+    ++ line (codes "a.6: ERROR 25P02 current transaction is aborted, commands ignored until end of transaction block")
+    ++ line (codes "a.7: ROLLBACK") ++ line (codes "a.8: WARNING 25P01 there is no transaction in progress") ++ line (codes "a.8: ROLLBACK")
+    ++ line (codes "table p (id)") ++ line (codes "schedule a*13")
+unfolding run_from step effect effects_of plan_of digits
+block_states-text = refl
+
+-- a parent that still has a child can't be deleted, and a null in a primary key is refused
+abbrev kept_parent : Script
+kept_parent =
+    one_session parent_and_child
+    (insert (codes "p") ((1 ∷ []) ∷ []) ∷ insert (codes "c") ((1 ∷ []) ∷ []) ∷ plain (Delete (codes "p")) ∷ plain (Insert (codes "p") ((Null ∷ []) ∷ [])) ∷ [])
+
+kept_parent-text : step_by_step kept_parent (replicate 20 0)
+    ≡ line (codes "a.1: INSERT 0 1") ++ line (codes "a.2: INSERT 0 1")
+    ++ line (codes "a.3: ERROR 23503 update or delete on table \"p\" violates foreign key constraint \"c_pid_fkey\" on table \"c\"")
+    ++ line (codes "a.3: DETAIL Key (id)=(1) is still referenced from table \"c\".")
+    ++ line (codes "a.4: ERROR 23502 null value in column \"id\" of relation \"p\" violates not-null constraint")
+    ++ line (codes "a.4: DETAIL Failing row contains (null).")
+    ++ line (codes "table p (id)") ++ line (codes "(1)") ++ line (codes "table c (pid)") ++ line (codes "(1)") ++ line (codes "schedule a*20")
+unfolding run_from step effect effects_of plan_of digits
+kept_parent-text = refl
+
+kept_parent-ends : have_all_ended (run (program_of kept_parent) (replicate 20 0)) ≡ true
+unfolding run_from step effect effects_of plan_of
+kept_parent-ends = refl

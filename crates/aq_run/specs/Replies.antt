@@ -7,17 +7,28 @@ use Rattle.aq_base.specs.Catalogs.{Catalog}
 use Rattle.aq_base.specs.declared.value.Value.{Value}
 use Rattle.aq_base.specs.declared.value.Value.TheVariants.{Null, Bool as Truth, Int, Text as Characters}
 use Rattle.aq_base.specs.declared.reply.ReplyLine.{ReplyLine}
-use Rattle.aq_base.specs.declared.reply.ReplyLine.TheVariants.{Tag, Error, Detail}
+use Rattle.aq_base.specs.declared.reply.ReplyLine.TheVariants.{Tag, Warning, Error, Detail}
 use Rattle.aq_outcomes.specs.Faults.{Fault}
-use Rattle.aq_outcomes.specs.Faults.Fault.{Duplicate, Missing}
+use Rattle.aq_outcomes.specs.Faults.Fault.{Duplicate, Null_value, Missing, Referenced, In_failed_block}
 use Rattle.aq_run.specs.States.{Answer}
-use Rattle.aq_run.specs.States.Answer.{Inserted}
+use Rattle.aq_run.specs.States.Answer.{Inserted, Deleted, Began, Committed, Rolled_back}
 
 abbrev pub tag_of : Answer → Text
 tag_of (Inserted count) = codes "INSERT 0 " ++ decimal count
+tag_of (Deleted count) = codes "DELETE " ++ decimal count
+tag_of Began = codes "BEGIN"
+tag_of Committed = codes "COMMIT"
+tag_of Rolled_back = codes "ROLLBACK"
 
 abbrev pub answer_lines : Answer → List ReplyLine
 answer_lines answer = Tag (tag_of answer) ∷ []
+
+-- the warnings of a statement that has nothing to do (PostgreSQL source, xact.c, BeginTransactionBlock, EndTransactionBlock)
+abbrev pub in_progress_warning : ReplyLine
+in_progress_warning = Warning (record { 0 = codes "25001" }) (codes "there is already a transaction in progress")
+
+abbrev pub no_block_warning : ReplyLine
+no_block_warning = Warning (record { 0 = codes "25P01" }) (codes "there is no transaction in progress")
 
 -- texts with `, ` between each two
 abbrev pub joined : List Text → Text
@@ -53,6 +64,16 @@ abbrev pub error_lines : Catalog → Fault → List ReplyLine
 error_lines cat (Duplicate key values) =
     Error (record { 0 = codes "23505" }) (codes "duplicate key value violates unique constraint " ++ quoted key.name)
     ∷ Detail (key_text cat key.table key.cols values ++ codes " already exists.") ∷ []
+error_lines cat (Null_value table col values) =
+    Error (record { 0 = codes "23502" })
+    (codes "null value in column " ++ quoted (col_name cat table col) ++ codes " of relation " ++ quoted (table_name cat table) ++ codes " violates not-null constraint")
+    ∷ Detail (codes "Failing row contains (" ++ joined (map detail_value values) ++ codes ").") ∷ []
 error_lines cat (Missing fk values) =
     Error (record { 0 = codes "23503" }) (codes "insert or update on table " ++ quoted (table_name cat fk.child) ++ codes " violates foreign key constraint " ++ quoted fk.name)
     ∷ Detail (key_text cat fk.child fk.child_cols values ++ codes " is not present in table " ++ quoted (table_name cat fk.parent) ++ codes ".") ∷ []
+error_lines cat (Referenced fk values) =
+    Error (record { 0 = codes "23503" })
+    (codes "update or delete on table " ++ quoted (table_name cat fk.parent) ++ codes " violates foreign key constraint " ++ quoted fk.name ++ codes " on table " ++ quoted (table_name cat fk.child))
+    ∷ Detail (key_text cat fk.parent fk.parent_cols values ++ codes " is still referenced from table " ++ quoted (table_name cat fk.child) ++ codes ".") ∷ []
+error_lines cat In_failed_block =
+    Error (record { 0 = codes "25P02" }) (codes "current transaction is aborted, commands ignored until end of transaction block") ∷ []

@@ -11,14 +11,26 @@ use Rattle.aq_base.specs.declared.reply.ReplyLine.{ReplyLine}
 -- a data statement in progress, without its targets
 pub data Operation : Type 0 where
   Inserting : (table : ℕ) → Operation
+  Deleting : (table : ℕ) → Operation
 
 -- what one row step of a statement works on
 pub data Target : Type 0 where
   New_row : (values : Row) → Target
+  Old_row : (number : ℕ) → Target
 
 -- what a statement answers when it succeeds
 pub data Answer : Type 0 where
   Inserted : (count : ℕ) → Answer
+  Deleted : (count : ℕ) → Answer
+  Began : Answer
+  Committed : Answer
+  Rolled_back : Answer
+
+-- a session's transaction block (PostgreSQL source, xact.c, TBlockState)
+pub data Block : Type 0 where
+  Idle : Block
+  Open : Block
+  Failed : Block
 
 -- what is in progress in a session
 pub data Task : Type 0 where
@@ -26,7 +38,7 @@ pub data Task : Type 0 where
   Rows : (operation : Operation) → (left : List Target) → (done : ℕ) → Task
   -- the rounds of the statement's level, and then its answer
   Rounds : (answer : Answer) → Task
-  -- the transaction commits, and then the answer is given
+  -- the deferred events fire, the transaction commits, and then the answer is given
   Committing : (answer : Answer) → Task
 
 pub record Transaction : Type 0 where
@@ -35,6 +47,7 @@ pub record Transaction : Type 0 where
 pub record Session : Type 0 where
   -- how many statements were taken
   pub next : ℕ
+  pub block : Block
   pub transaction : Option Transaction
   -- the innermost first
   pub tasks : List Task
@@ -64,7 +77,7 @@ pub record Standing : Type 0 where
   pub state : State
 
 abbrev pub at_start : Session
-at_start = record { next = 0; transaction = None; tasks = []; ended = false }
+at_start = record { next = 0; block = Idle; transaction = None; tasks = []; ended = false }
 
 -- the state before the first step: database 0 is empty
 abbrev pub opening : Program → State
@@ -76,7 +89,7 @@ opening program =
 
 -- a session that has no statements
 abbrev pub nobody : Session
-nobody = record { next = 0; transaction = None; tasks = []; ended = true }
+nobody = record { next = 0; block = Idle; transaction = None; tasks = []; ended = true }
 
 abbrev pub session_at : State → ℕ → Session
 session_at st s = slice_index_or st.sessions s nobody
@@ -88,10 +101,6 @@ last_of (db ∷ next ∷ later) = last_of (next ∷ later)
 
 abbrev pub last_database : World → Database
 last_database world = last_of world.history
-
--- the number of the last commit
-abbrev pub last_commit : World → ℕ
-last_commit world = length world.history - 1
 
 -- what the transaction sees now, and what its commit would append: the last database with its own versions
 abbrev pub latest_view : World → Work → Database

@@ -10,7 +10,7 @@ use Rattle.aq_base.specs.declared.value.Value.{Value}
 use Rattle.aq_base.specs.declared.value.Value.TheVariants.{Null, Bool as Truth, Int, Text as Characters}
 use Rattle.aq_base.specs.declared.catalog.Table.{Table}
 use Rattle.aq_base.specs.declared.reply.ReplyLine.{ReplyLine}
-use Rattle.aq_base.specs.declared.reply.ReplyLine.TheVariants.{Tag, Error, Detail}
+use Rattle.aq_base.specs.declared.reply.ReplyLine.TheVariants.{Tag, Warning, Error, Detail}
 use Rattle.aq_run.specs.States.{Given, State, last_database}
 use Rattle.aq_run.specs.Replies.{joined}
 use Rattle.aq_run.specs.Runs.{Schedule, run}
@@ -22,6 +22,7 @@ line text = text ++ 10 ∷ []
 
 abbrev pub reply_text : ReplyLine → Text
 reply_text (Tag text) = text
+reply_text (Warning code text) = codes "WARNING " ++ code.0 ++ codes " " ++ text
 reply_text (Error code text) = codes "ERROR " ++ code.0 ++ codes " " ++ text
 reply_text (Detail text) = codes "DETAIL " ++ text
 

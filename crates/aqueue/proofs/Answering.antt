@@ -18,12 +18,24 @@ no_replay words a b = let e : false ≡ true = sym a ∙ b in cc
 told : (input : Option (List ℕ)) (bytes : List ℕ) (P : List ℕ → Type 0) → input ≡ Some bytes → IfSome input P → P bytes
 told input bytes P e h = let at : IfSome (Some bytes) P = subst (λ o. IfSome o P) e h in at
 
+none_of : (input : Option (List ℕ)) → IfSome input (λ bytes. (length bytes ≤ script_limit) × HasNoReading bytes) → IfSome input HasNoReading
+none_of None h = tt
+none_of (Some bytes) h = h.1
+
 -- the status of the sink's fault is none of them
 pub no_answer_five : (words : List Text) (input : Option (List ℕ)) (status : ℕ) (output : Text) → IsAnswer words input status output → status ≡ 5 → ⊥
 no_answer_five words input status output (Usage ws i u) e = omega arith
 no_answer_five words input status output (Too_long ws i r l) e = omega arith
 no_answer_five words input status output (Not_read ws i r l) e = omega arith
 no_answer_five words input status output (Replayed ws i t r l) e = omega arith
+
+-- what the answer to bytes that are no script says, of an output that it holds of
+pub refusal_holds : (words : List Text) (input : Option (List ℕ)) (status : ℕ) (output : Text) (P : Text → Type 0) → IsAnswer words input status output → P output → status ≡ 2 →
+    (are_replay words ≡ true) × IfSome input HasNoReading × P (refusal_line 1 not_built)
+refusal_holds words input status output P (Usage ws i u) p e = absurd (omega arith)
+refusal_holds words input status output P (Too_long ws i r l) p e = absurd (omega arith)
+refusal_holds words input status output P (Not_read ws i r l) p e = (r, none_of input l, p)
+refusal_holds words input status output P (Replayed ws i t r l) p e = absurd (omega arith)
 
 -- bytes that are no script are refused
 pub refused_answer : (words : List Text) (input : Option (List ℕ)) (status : ℕ) (output : Text) (bytes : List ℕ) → IsAnswer words input status output → are_replay words ≡ true →

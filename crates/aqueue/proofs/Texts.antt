@@ -1,8 +1,8 @@
 -- A script that fits the language has a text of its run by the default schedule.
-use Rattle.std.proofs.Common.{◌≡◌, ℕ, ◌≤◌, Bool, true, false, ◌&&◌, leb, List, [], ◌∷◌, length, map, refl, sym, ap, subst, ◌∙◌, arith}
+use Rattle.std.proofs.Common.{◌≡◌, ℕ, ◌≤◌, ◌<◌, ◌^◌, ◌+◌, Bool, true, false, ◌&&◌, leb, List, [], ◌∷◌, length, map, refl, sym, ap, subst, ◌∙◌, arith}
 use Rattle.std.specs.List.{list_all}
 use Rattle.std.proofs.lemmas.Bool.Decides.{nat_tests}
-use Rattle.aq_base.specs.Names.{Text, is_name}
+use Rattle.aq_base.specs.Names.{Text, is_name, all_differ}
 use Rattle.aq_base.specs.Catalogs.{Catalog}
 use Rattle.aq_base.specs.Setup.{program_of, catalog_of}
 use Rattle.aq_base.specs.Scripts.{fits_first_language, session_fits}
@@ -12,8 +12,8 @@ use Rattle.aq_run.specs.States.{opening}
 use Rattle.aq_run.specs.Runs.{Schedule, run, GoesByDefault, IsSchedule, IsComplete}
 use Rattle.aq_run.specs.Texts.{text}
 use Rattle.aq_run.proofs.Running.{CanRunFrom-by_default}
-use Rattle.aq_run.specs.Told.{TellsSchedule}
-use Rattle.aq_run.proofs.Told.{told}
+use Rattle.aq_run.specs.Told.{TellsSchedule, CanBeTold}
+use Rattle.aq_run.proofs.Told.{told, schedule_is_told, IsSchedule-told}
 use Rattle.aq_laws.proofs.Committed.{committed_databases_stand}
 use Rattle.aq_journal.specs.Journals.{Journal, Finishes}
 use Rattle.aqueue.specs.Answers.{IsTextOf}
@@ -36,7 +36,14 @@ names_fit cat (session ∷ sessions) e =
 -- the parts of the conditions that are wanted here
 record Fits (script : Script) : Type 0 where
   names : list_all is_name (program_of script).names ≡ true
+  differ : all_differ (program_of script).names ≡ true
   one_session : length script.sessions ≤ 1
+
+-- one name is no other's
+alone_differ : (sessions : List SessionText) → leb (length sessions) 1 ≡ true → all_differ (map (λ session. session.name) sessions) ≡ true
+alone_differ [] few = refl
+alone_differ (session ∷ []) few = refl
+alone_differ (session ∷ second ∷ sessions) few = let none : 2 + length sessions ≤ 1 = grind (arith, nat_tests) in absurd (omega arith)
 
 fits : (script : Script) → fits_first_language script ≡ true → Fits script
 fits script e =
@@ -44,9 +51,11 @@ fits script e =
     let no_schedule = both_left _ _ at_most_rows in
     let sessions = both_left _ _ no_schedule in
     let setup = both_left _ _ sessions in
+    let few_sessions : leb (length script.sessions) 1 ≡ true = both_right _ _ sessions in
     record {
       names = names_fit (catalog_of script) script.sessions (both_right _ _ setup);
-      one_session = let few : leb (length script.sessions) 1 ≡ true = both_right _ _ sessions in grind (arith, nat_tests);
+      differ = alone_differ script.sessions few_sessions;
+      one_session = grind (arith, nat_tests);
     }
 
 -- a script as it is opened, with no step yet
@@ -54,8 +63,8 @@ abbrev pub opened : Script → Journal
 opened script = record { script = script; state = opening (program_of script); schedule = [] }
 
 pub finished_text : (script : Script) (after : Journal) (output : Text) → fits_first_language script ≡ true → Finishes (opened script) after
-    → output ≡ text (program_of after.script) after.schedule → IsTextOf script output
-finished_text script after output e finishes printed =
+    → length after.schedule < 2 ^ 64 → output ≡ text (program_of after.script) after.schedule → IsTextOf script output
+finished_text script after output e finishes short printed =
     let goes = finishes.goes_on in
     let later : Schedule = goes.later in
     let fit = fits script e in
@@ -64,11 +73,16 @@ finished_text script after output e finishes printed =
     let complete : IsComplete (program_of script) later =
     subst (λ s. IsComplete (program_of s) later) goes.same_script (subst (λ (w : Schedule). IsComplete (program_of after.script) w) goes.schedule finishes.complete) in
     let can_run : IsSchedule (program_of script) later = CanRunFrom-by_default (program_of script) (opening (program_of script)) later goes.by_default in
+    let tells : TellsSchedule (program_of script).names output later =
+    subst (λ (t : Text). TellsSchedule (program_of script).names t later) (sym out_is) (told (program_of script) (run (program_of script) later) later fit.names) in
+    let below : length later < 2 ^ 64 = subst (λ (w : Schedule). length w < 2 ^ 64) goes.schedule short in
+    let can : CanBeTold (program_of script).names later = IsSchedule-told script later can_run (omega arith) in
     record {
       schedule = later;
       by_default = record { by_default = goes.by_default; complete = complete };
       printed = out_is;
-      told = subst (λ (t : Text). TellsSchedule (program_of script).names t later) (sym out_is) (told (program_of script) (run (program_of script) later) later fit.names);
+      told = tells;
+      only = λ other can_be_told told_too. schedule_is_told (program_of script).names fit.names fit.differ output other later can_be_told can told_too tells;
       complete = complete;
       stand = committed_databases_stand script later fit.one_session can_run;
     }

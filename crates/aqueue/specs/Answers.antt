@@ -10,7 +10,7 @@ use Rattle.aq_base.specs.declared.script.Script.{Script}
 use Rattle.aq_parse.specs.Reading.{Reads, HasNoReading, not_built}
 use Rattle.aq_run.specs.Runs.{Schedule, run, IsSchedule, IsComplete, IsDefaultSchedule}
 use Rattle.aq_run.specs.Texts.{line, text}
-use Rattle.aq_run.specs.Told.{TellsSchedule}
+use Rattle.aq_run.specs.Told.{TellsSchedule, CanBeTold}
 use Rattle.aq_laws.specs.Committed.{DatabasesStand}
 
 -- ---- the words, and the lines that are no text of a run
@@ -44,6 +44,8 @@ pub record IsTextOf (script : Script) (output : Text) : Type 0 where
   pub by_default : IsDefaultSchedule (program_of script) schedule
   pub printed : output ≡ text (program_of script) schedule
   pub told : TellsSchedule (program_of script).names output schedule
+  -- and no other schedule
+  pub only : (other : Schedule) → CanBeTold (program_of script).names other → TellsSchedule (program_of script).names output other → other ≡ schedule
   pub complete : IsComplete (program_of script) schedule
   pub stand : DatabasesStand (program_of script) (run (program_of script) schedule)
 

@@ -25,7 +25,7 @@ const TOO_LONG: &[u8] = b"aqueue: script longer than 16777216 bytes\n";
 
 // What the words and the input come to, before anything is written.
 #[derive(Debug, Drop)]
-pub enum Outcome {
+enum Outcome {
     // The status, with what is to be written.
     Writes { status: u8, text: List<u8> },
     // The source failed.
@@ -81,6 +81,7 @@ fn prepared<S: Source>(
 ) -> Result<Outcome, NoMemory>
     ensures cases { IfOk result (OutcomeCases words.now (S.left input.old) (S.faults input.old) (S.faults input.new)) }
     ensures count { S.faults input.old ≤ S.faults input.new }
+    ensures unread { are_replay words.now ≡ false → Keeps (S.left input.old) (S.left input.new) }
 {
     if !is_replay(words) {
         return Ok(Outcome::Writes {
@@ -118,7 +119,7 @@ pub fn aqueue<S: Source, K: Sink>(
     // 0: all bytes were read, and what was written is the text of the run of the script that they are.
     ensures done { result ≡ 0 → (are_replay words.now ≡ true) × Wrote (S.left input.old) (K.written output.old) (K.written output.new) IsReplay }
     // 1: exactly where the words are no list that is built.
-    ensures usage { result ≡ 1 → (are_replay words.now ≡ false) × Appends (K.written output.old) (K.written output.new) usage_line }
+    ensures usage { result ≡ 1 → (are_replay words.now ≡ false) × Keeps (S.left input.old) (S.left input.new) × Appends (K.written output.old) (K.written output.new) usage_line }
     ensures usage_comes { are_replay words.now ≡ false → is_one_of (1 ∷ 5 ∷ 6 ∷ []) result ≡ true }
     // 2: exactly where the bytes are no script.
     ensures refused { result ≡ 2 → (are_replay words.now ≡ true) × IfSome (S.left input.old) HasNoReading × Appends (K.written output.old) (K.written output.new) (refusal_line 1 not_built) }

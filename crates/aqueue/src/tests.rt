@@ -102,6 +102,13 @@ fn short_scripts(rt: HostRuntime) -> Result<(), Fail> {
         ("\\setup CREATE TABLE t (id text);", 2, NOT_BUILT),
         ("\\session a SELECT * FROM t;", 2, NOT_BUILT),
         ("\\session a INSERT INTO t VALUES (1);", 2, NOT_BUILT),
+        ("\\session a DELETE FROM t;", 2, NOT_BUILT),
+        ("\\session a COMMIT WORK;", 2, NOT_BUILT),
+        (
+            "\\session a BEGIN; ROLLBACK;",
+            0,
+            "a.1: BEGIN\na.2: ROLLBACK\nschedule a*3\n",
+        ),
         ("-- nothing", 2, NOT_BUILT),
     ];
     for (script, status, text) in cases {
@@ -230,5 +237,119 @@ fn a_journal_steps_and_goes_on_to_the_end(rt: HostRuntime) -> Result<(), Fail> {
             "behind {taken} steps"
         );
     }
+    Ok(())
+}
+
+// A session over a parent and a child, whose reference has these words behind it.
+fn over_parent_and_child(
+    alloc: Global,
+    timing: &str,
+    statements: &str,
+) -> Result<String, NoMemory> {
+    format!(in alloc;
+        "\\setup CREATE TABLE p (id integer PRIMARY KEY); CREATE TABLE c (pid integer REFERENCES p {timing});\n\\session a {statements}"
+    )
+}
+
+#[test]
+fn a_table_that_refers_to_itself(rt: HostRuntime) -> Result<(), Fail> {
+    let script = "\\setup CREATE TABLE node (id integer PRIMARY KEY, up integer REFERENCES node);
+\\session a INSERT INTO node VALUES (1, NULL), (2, 1); DELETE FROM node;";
+    let text = "a.1: INSERT 0 2\na.2: DELETE 2\ntable node (id, up)\nschedule a*19\n";
+    let (status, sink) = answer_of(rt.alloc(), &["replay"], script, 4096, &[], 4096)?;
+    assert_eq!(rt; status, 0);
+    assert_eq!(rt; sink.bytes(), text.as_bytes());
+    Ok(())
+}
+
+#[test]
+fn a_deferred_check_waits_for_the_commit(rt: HostRuntime) -> Result<(), Fail> {
+    let script = over_parent_and_child(
+        rt.alloc(),
+        "DEFERRABLE INITIALLY DEFERRED",
+        "BEGIN; INSERT INTO c VALUES (1); INSERT INTO p VALUES (1); COMMIT; BEGIN; INSERT INTO c VALUES (9); COMMIT;",
+    )?;
+    let text = "a.1: BEGIN
+a.2: INSERT 0 1
+a.3: INSERT 0 1
+a.4: COMMIT
+a.5: BEGIN
+a.6: INSERT 0 1
+a.7: ERROR 23503 insert or update on table \"c\" violates foreign key constraint \"c_pid_fkey\"
+a.7: DETAIL Key (pid)=(9) is not present in table \"p\".
+table p (id)
+(1)
+table c (pid)
+(1)
+schedule a*22
+";
+    let (status, sink) = answer_of(rt.alloc(), &["replay"], script.as_str(), 4096, &[], 4096)?;
+    assert_eq!(rt; status, 0);
+    assert_eq!(rt; sink.bytes(), text.as_bytes());
+    Ok(())
+}
+
+#[test]
+fn the_check_of_a_row_that_was_deleted_is_skipped(rt: HostRuntime) -> Result<(), Fail> {
+    let script = over_parent_and_child(
+        rt.alloc(),
+        "DEFERRABLE INITIALLY DEFERRED",
+        "BEGIN; INSERT INTO c VALUES (7); DELETE FROM c; COMMIT;",
+    )?;
+    let text =
+        "a.1: BEGIN\na.2: INSERT 0 1\na.3: DELETE 1\na.4: COMMIT\ntable p (id)\ntable c (pid)\nschedule a*14\n";
+    let (status, sink) = answer_of(rt.alloc(), &["replay"], script.as_str(), 4096, &[], 4096)?;
+    assert_eq!(rt; status, 0);
+    assert_eq!(rt; sink.bytes(), text.as_bytes());
+    Ok(())
+}
+
+#[test]
+fn the_states_of_a_block(rt: HostRuntime) -> Result<(), Fail> {
+    let script = "\\setup CREATE TABLE p (id integer PRIMARY KEY);
+\\session a COMMIT; BEGIN; BEGIN; INSERT INTO p VALUES (1); INSERT INTO p VALUES (1); DELETE FROM p; ROLLBACK; ROLLBACK;";
+    let text = "a.1: WARNING 25P01 there is no transaction in progress
+a.1: COMMIT
+a.2: BEGIN
+a.3: WARNING 25001 there is already a transaction in progress
+a.3: BEGIN
+a.4: INSERT 0 1
+a.5: ERROR 23505 duplicate key value violates unique constraint \"p_pkey\"
+a.5: DETAIL Key (id)=(1) already exists.
+a.6: ERROR 25P02 current transaction is aborted, commands ignored until end of transaction block
+a.7: ROLLBACK
+a.8: WARNING 25P01 there is no transaction in progress
+a.8: ROLLBACK
+table p (id)
+schedule a*13
+";
+    let (status, sink) = answer_of(rt.alloc(), &["replay"], script, 4096, &[], 4096)?;
+    assert_eq!(rt; status, 0);
+    assert_eq!(rt; sink.bytes(), text.as_bytes());
+    Ok(())
+}
+
+#[test]
+fn a_parent_with_a_child_stays(rt: HostRuntime) -> Result<(), Fail> {
+    let script = over_parent_and_child(
+        rt.alloc(),
+        "",
+        "INSERT INTO p VALUES (1); INSERT INTO c VALUES (1); DELETE FROM p; INSERT INTO p VALUES (NULL);",
+    )?;
+    let text = "a.1: INSERT 0 1
+a.2: INSERT 0 1
+a.3: ERROR 23503 update or delete on table \"p\" violates foreign key constraint \"c_pid_fkey\" on table \"c\"
+a.3: DETAIL Key (id)=(1) is still referenced from table \"c\".
+a.4: ERROR 23502 null value in column \"id\" of relation \"p\" violates not-null constraint
+a.4: DETAIL Failing row contains (null).
+table p (id)
+(1)
+table c (pid)
+(1)
+schedule a*20
+";
+    let (status, sink) = answer_of(rt.alloc(), &["replay"], script.as_str(), 4096, &[], 4096)?;
+    assert_eq!(rt; status, 0);
+    assert_eq!(rt; sink.bytes(), text.as_bytes());
     Ok(())
 }

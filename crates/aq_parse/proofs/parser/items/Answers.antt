@@ -1,6 +1,6 @@
 use Rattle.std.proofs.Common.{◌≡◌, true, false, Some, sym, ◌∙◌}
 use Rattle.std.proofs.lemmas.Result.{err_from_is_err_and}
-use Rattle.aq_parse.specs.Grammar.{item_tokens}
+use Rattle.aq_parse.specs.Grammar.{SpellsItem}
 use Rattle.aq_parse.specs.Parsing.{begins_with, is_mark, next_at, item_at}
 use Rattle.aq_parse.proofs.Listing.{goes_on_with, fails_with, ends_with_all}
 use Rattle.aq_parse.proofs.Readers.{first_stands, first_fails, next_shortens, next_is, next_fails, some_tokens}
@@ -10,24 +10,24 @@ use Rattle.aq_parse.proofs.parser.items.Goals as goal
 pub returns-in_err-first : goal.returns-in_err-first
 returns-in_err-first c =
     let p = err_from_is_err_and c.from_residual.result c.from_residual.ensures.1 in
-    rw (p.1, p.2) (first_fails item_tokens (λ item. true) item_at item_reader c.in_err-first.field-0.0 c.args.tokens.now c.in_err-first.ensures)
+    rw (p.1, p.2) (first_fails SpellsItem item_at item_reader c.in_err-first.field-0.0 c.args.tokens.now c.in_err-first.ensures)
 
 pub items-init : goal.items-init
 items-init c =
     rw (c.in_ok-push.ensures.ok, c.new-items.ensures)
-    (first_stands item_tokens (λ item. true) item_at item_reader c.args.tokens.now (c.in_ok-first.first, c.in_ok-first.rest.now) c.in_ok-first.ensures)
+    (first_stands SpellsItem item_at item_reader c.args.tokens.now (c.in_ok-first.first, c.in_ok-first.rest.now) c.in_ok-first.ensures)
 
 pub items-preserved : goal.items-preserved
 items-preserved c =
     let begun : begins_with (is_mark 44) c.items.rest.now ≡ true = sym c.begins_with_mark.ensures ∙ c.items-test.true in
     let next : next_at item_at c.items.rest.now ≡ Some (c.in_ok-next.next, c.in_ok-next.after.now) = next_is item_at c.items.rest.now c.in_ok-behind.behind.now _ c.in_ok-behind.ensures c.in_ok-next.ensures in
     rw c.in_ok-push-2.ensures.ok
-    (goes_on_with (begins_with (is_mark 44)) (next_at item_at) c.items.items c.items.rest.now c.in_ok-next.after.now c.in_ok-next.next _ (next_shortens item_tokens (λ item. true) item_at item_reader) c.items.invariant begun next)
+    (goes_on_with (begins_with (is_mark 44)) (next_at item_at) c.items.items c.items.rest.now c.in_ok-next.after.now c.in_ok-next.next _ (next_shortens SpellsItem item_at item_reader) c.items.invariant begun next)
 
 pub items-smaller : goal.items-smaller
 items-smaller c =
     let next : next_at item_at c.items.rest.now ≡ Some (c.in_ok-next.next, c.in_ok-next.after.now) = next_is item_at c.items.rest.now c.in_ok-behind.behind.now _ c.in_ok-behind.ensures c.in_ok-next.ensures in
-    next_shortens item_tokens (λ item. true) item_at item_reader c.items.rest.now (c.in_ok-next.next, c.in_ok-next.after.now) next
+    next_shortens SpellsItem item_at item_reader c.items.rest.now (c.in_ok-next.next, c.in_ok-next.after.now) next
 
 pub returns-in_err-next : goal.returns-in_err-next
 returns-in_err-next c =

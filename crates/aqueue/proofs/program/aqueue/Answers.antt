@@ -1,10 +1,18 @@
-use Rattle.std.proofs.Common.{◌≡◌, ℕ, ◌≤◌, true, List, [], ◌∷◌, length}
+use Rattle.std.proofs.Common.{◌≡◌, ℕ, ◌≤◌, true, List, [], ◌∷◌, length, subst}
 use Rattle.aq_base.specs.declared.script.Script.{Script}
 use Rattle.aq_causes.specs.Counts.{Rose}
 use Rattle.aq_parse.specs.Reading.{Reads, HasNoReading}
 use Rattle.aqueue.specs.Answers.{script_limit, is_one_of}
-use Rattle.aqueue.proofs.Answering.{no_answer_five, refused_answer, replayed_answer, all_told}
+use Rattle.aqueue.proofs.Answering.{no_answer_five, refusal_holds, refused_answer, replayed_answer, all_told}
+use Rattle.std.specs.Io.KnownBytes.{Appends}
 use Rattle.aqueue.proofs.program.aqueue.Goals as goal
+
+pub returns-in-Done-clause-refused : goal.returns-in-Done-clause-refused
+returns-in-Done-clause-refused g c =
+    let answer = rw c.in-Ok-Writes.field-0-is at c.in-Ok-Writes.ensures.cases in
+    refusal_holds c.args.words.now (g.S.Source.left c.args.input.now) c.in-Ok-Writes.status c.in-Ok-Writes.text
+    (λ line. Appends (g.K.Sink.written c.args.output.now) (g.K.Sink.written c.write_all.new.output) line) answer
+    (subst (λ sent. Appends (g.K.Sink.written c.args.output.now) (g.K.Sink.written c.write_all.new.output) sent) c.as_slice.ensures c.in-Done.ensures.cases)
 
 pub returns-in-Done-clause-refused_comes : goal.returns-in-Done-clause-refused_comes
 returns-in-Done-clause-refused_comes g c = λ is.

@@ -1,8 +1,11 @@
 use Rattle.aq_machine.proofs.Setups.{create-room, keys-fks}
 use Rattle.aq_machine.proofs.catalog.Catalog.create.Goals as goal
 
-pub add_table-requires : goal.add_table-requires
-add_table-requires c = (create-room c.args.self.now c.args.table.now c.args.items.now c.requires).tables
+pub add_table-requires-clause-room : goal.add_table-requires-clause-room
+add_table-requires-clause-room c = (create-room c.args.self.now c.args.table.now c.args.items.now c.requires).tables
+
+pub add_table-requires-clause-items : goal.add_table-requires-clause-items
+add_table-requires-clause-items c = (create-room c.args.self.now c.args.table.now c.args.items.now c.requires).cols
 
 pub add_keys-requires : goal.add_keys-requires
 add_keys-requires c = (create-room c.args.self.now c.args.table.now c.args.items.now c.requires).cols
