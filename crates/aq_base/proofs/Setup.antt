@@ -11,13 +11,13 @@ use Rattle.aq_base.specs.declared.catalog.Op.{Op}
 use Rattle.aq_base.specs.declared.catalog.Op.TheVariants.{Insert as On_insert, Update as On_update, Delete as On_delete}
 use Rattle.aq_base.specs.declared.catalog.Does.{Does}
 use Rattle.aq_base.specs.declared.catalog.Does.TheVariants.{Check, Parent}
-use Rattle.aq_base.specs.declared.script.ColumnConstraint.{ColumnConstraint}
-use Rattle.aq_base.specs.declared.script.ColumnConstraint.TheVariants.{PrimaryKey, References}
-use Rattle.aq_base.specs.declared.script.ColumnItem.{ColumnItem}
-use Rattle.aq_base.specs.declared.script.Statement.{Statement}
-use Rattle.aq_base.specs.declared.script.Statement.TheVariants.{CreateTable, Insert, Delete, Begin, Commit, Rollback}
-use Rattle.aq_base.specs.declared.script.Placed.{Placed}
-use Rattle.aq_base.specs.declared.script.Script.{Script}
+use Rattle.aq_base.specs.declared.simple.SimpleConstraint.{SimpleConstraint}
+use Rattle.aq_base.specs.declared.simple.SimpleConstraint.TheVariants.{PrimaryKey, References}
+use Rattle.aq_base.specs.declared.simple.SimpleColumn.{SimpleColumn}
+use Rattle.aq_base.specs.declared.simple.SimpleStatement.{SimpleStatement}
+use Rattle.aq_base.specs.declared.simple.SimpleStatement.TheVariants.{CreateTable, Insert, Delete, Begin, Commit, Rollback}
+use Rattle.aq_base.specs.declared.simple.SimplePlaced.{SimplePlaced}
+use Rattle.aq_base.specs.declared.simple.SimpleScript.{SimpleScript}
 use Rattle.aq_base.proofs.Lists.{slice_get-append, slice_get-behind, slice_get-behind_next, slice_get-push_cases}
 
 -- a trigger of a table that fires on these changes, at once or at the commit, and does this
@@ -60,12 +60,12 @@ enforced_more triggers more fk f is =
       of_parent = has_more triggers more f.parent (On_update ∷ On_delete ∷ []) is.decl (Parent fk) is.of_parent;
     }
 
-keys_keep : (number : ℕ) (table : Text) (col : ℕ) (items : List ColumnItem) (cat : Catalog) → ForeignKeysAreEnforced cat → ForeignKeysAreEnforced (adds_keys number table col items cat)
+keys_keep : (number : ℕ) (table : Text) (col : ℕ) (items : List SimpleColumn) (cat : Catalog) → ForeignKeysAreEnforced cat → ForeignKeysAreEnforced (adds_keys number table col items cat)
 keys_keep number table col [] cat enforced = enforced
 keys_keep number table col (item ∷ items) cat enforced =
     keys_keep number table (col + 1) items (adds_key number table col item.constraint cat) (key_keeps item.constraint)
   where
-    key_keeps : (constraint : Option ColumnConstraint) → ForeignKeysAreEnforced (adds_key number table col constraint cat)
+    key_keeps : (constraint : Option SimpleConstraint) → ForeignKeysAreEnforced (adds_key number table col constraint cat)
     key_keeps None = enforced
     key_keeps (Some PrimaryKey) = enforced
     key_keeps (Some (References parent decl)) = enforced
@@ -118,17 +118,17 @@ foreign_key_keeps number table col name decl (Some parent) cat enforced fk f sta
         let same_key = subst (IsEnforced (cat.triggers ++ more) (length cat.fks)) new.1 (new_enforced cat.triggers decl (length cat.fks) added) in
         subst (λ n. IsEnforced (cat.triggers ++ more) n f) (sym new.0) same_key
 
-references_keep : (number : ℕ) (table : Text) (col : ℕ) (items : List ColumnItem) (cat : Catalog) → ForeignKeysAreEnforced cat → ForeignKeysAreEnforced (adds_references number table col items cat)
+references_keep : (number : ℕ) (table : Text) (col : ℕ) (items : List SimpleColumn) (cat : Catalog) → ForeignKeysAreEnforced cat → ForeignKeysAreEnforced (adds_references number table col items cat)
 references_keep number table col [] cat enforced = enforced
 references_keep number table col (item ∷ items) cat enforced =
     references_keep number table (col + 1) items (adds_reference number table col item.name item.constraint cat) (reference_keeps item.constraint)
   where
-    reference_keeps : (constraint : Option ColumnConstraint) → ForeignKeysAreEnforced (adds_reference number table col item.name constraint cat)
+    reference_keeps : (constraint : Option SimpleConstraint) → ForeignKeysAreEnforced (adds_reference number table col item.name constraint cat)
     reference_keeps None = enforced
     reference_keeps (Some PrimaryKey) = enforced
     reference_keeps (Some (References parent decl)) = foreign_key_keeps number table col item.name decl (referred parent cat) cat enforced
 
-statement_keeps : (statement : Statement) (cat : Catalog) → ForeignKeysAreEnforced cat → ForeignKeysAreEnforced (defines statement cat)
+statement_keeps : (statement : SimpleStatement) (cat : Catalog) → ForeignKeysAreEnforced cat → ForeignKeysAreEnforced (defines statement cat)
 statement_keeps (CreateTable table items) cat enforced =
     references_keep (length cat.tables) table 0 items (adds_keys (length cat.tables) table 0 items (adds_table table items cat)) (keys_keep (length cat.tables) table 0 items (adds_table table items cat) enforced)
 statement_keeps (Insert table rows) cat enforced = enforced
@@ -137,9 +137,9 @@ statement_keeps Begin cat enforced = enforced
 statement_keeps Commit cat enforced = enforced
 statement_keeps Rollback cat enforced = enforced
 
-setup_keeps : (cat : Catalog) (setup : List Placed) → ForeignKeysAreEnforced cat → ForeignKeysAreEnforced (setup_from cat setup)
+setup_keeps : (cat : Catalog) (setup : List SimplePlaced) → ForeignKeysAreEnforced cat → ForeignKeysAreEnforced (setup_from cat setup)
 setup_keeps cat [] enforced = enforced
 setup_keeps cat (placed ∷ others) enforced = setup_keeps (defines placed.statement cat) others (statement_keeps placed.statement cat enforced)
 
-pub ForeignKeysAreEnforced-catalog_of : (script : Script) → ForeignKeysAreEnforced (catalog_of script)
+pub ForeignKeysAreEnforced-catalog_of : (script : SimpleScript) → ForeignKeysAreEnforced (catalog_of script)
 ForeignKeysAreEnforced-catalog_of script = setup_keeps no_tables script.setup (λ fk f stands. absurd (none-some f stands))

@@ -11,16 +11,16 @@ use Rattle.aq_base.specs.declared.catalog.Trigger.{Trigger}
 use Rattle.aq_base.specs.declared.catalog.Decl.{Decl}
 use Rattle.aq_base.specs.declared.catalog.Op.TheVariants.{Insert as On_insert, Update as On_update, Delete as On_delete}
 use Rattle.aq_base.specs.declared.catalog.Does.TheVariants.{Check, Parent}
-use Rattle.aq_base.specs.declared.script.ColumnConstraint.{ColumnConstraint}
-use Rattle.aq_base.specs.declared.script.ColumnConstraint.TheVariants.{PrimaryKey, References}
-use Rattle.aq_base.specs.declared.script.ColumnItem.{ColumnItem}
-use Rattle.aq_base.specs.declared.script.Statement.{Statement}
-use Rattle.aq_base.specs.declared.script.Statement.TheVariants.{CreateTable, Insert, Delete, Begin, Commit, Rollback}
+use Rattle.aq_base.specs.declared.simple.SimpleConstraint.{SimpleConstraint}
+use Rattle.aq_base.specs.declared.simple.SimpleConstraint.TheVariants.{PrimaryKey, References}
+use Rattle.aq_base.specs.declared.simple.SimpleColumn.{SimpleColumn}
+use Rattle.aq_base.specs.declared.simple.SimpleStatement.{SimpleStatement}
+use Rattle.aq_base.specs.declared.simple.SimpleStatement.TheVariants.{CreateTable, Insert, Delete, Begin, Commit, Rollback}
 use Rattle.aq_base.specs.declared.script.Bound.{Bound}
 use Rattle.aq_base.specs.declared.script.Bound.TheVariants.{InsertRows, DeleteRows, BeginBlock, CommitBlock, RollbackBlock}
-use Rattle.aq_base.specs.declared.script.Placed.{Placed}
-use Rattle.aq_base.specs.declared.script.SessionText.{SessionText}
-use Rattle.aq_base.specs.declared.script.Script.{Script}
+use Rattle.aq_base.specs.declared.simple.SimplePlaced.{SimplePlaced}
+use Rattle.aq_base.specs.declared.simple.SimpleSession.{SimpleSession}
+use Rattle.aq_base.specs.declared.simple.SimpleScript.{SimpleScript}
 
 abbrev pub no_tables : Catalog
 no_tables = record { tables = []; keys = []; fks = []; triggers = [] }
@@ -38,31 +38,31 @@ abbrev pub referred : Text → Catalog → Option (ℕ × List ℕ)
 referred parent cat =
     option_and_then (λ number. option_map (λ cols. (number, cols)) (primary_cols number cat)) (table_number parent cat)
 
-abbrev pub is_primary : Option ColumnConstraint → Bool
+abbrev pub is_primary : Option SimpleConstraint → Bool
 is_primary None = false
 is_primary (Some PrimaryKey) = true
 is_primary (Some (References parent decl)) = false
 
-abbrev pub column_of : ColumnItem → Column
+abbrev pub column_of : SimpleColumn → Column
 column_of item = record { name = item.name; kind = item.kind }
 
 -- the columns that hold no null: those of the primary key
-abbrev pub primary_items : ℕ → List ColumnItem → List ℕ
+abbrev pub primary_items : ℕ → List SimpleColumn → List ℕ
 primary_items col [] = []
 primary_items col (item ∷ items) = if is_primary item.constraint then col ∷ primary_items (col + 1) items else primary_items (col + 1) items
 
-abbrev pub adds_table : Text → List ColumnItem → Catalog → Catalog
+abbrev pub adds_table : Text → List SimpleColumn → Catalog → Catalog
 adds_table name items cat =
     record cat { tables = cat.tables ++ record { name = name; cols = map column_of items; not_null = primary_items 0 items } ∷ [] }
 
 -- the primary key that a column's constraint makes
-abbrev pub adds_key : ℕ → Text → ℕ → Option ColumnConstraint → Catalog → Catalog
+abbrev pub adds_key : ℕ → Text → ℕ → Option SimpleConstraint → Catalog → Catalog
 adds_key number table col None cat = cat
 adds_key number table col (Some PrimaryKey) cat =
     record cat { keys = cat.keys ++ record { name = primary_key_name table; table = number; cols = col ∷ [] } ∷ [] }
 adds_key number table col (Some (References parent decl)) cat = cat
 
-abbrev pub adds_keys : ℕ → Text → ℕ → List ColumnItem → Catalog → Catalog
+abbrev pub adds_keys : ℕ → Text → ℕ → List SimpleColumn → Catalog → Catalog
 adds_keys number table col [] cat = cat
 adds_keys number table col (item ∷ items) cat = adds_keys number table (col + 1) items (adds_key number table col item.constraint cat)
 
@@ -78,22 +78,22 @@ adds_foreign_key number table col name decl (Some parent) cat =
     }
 
 -- the foreign key that a column's constraint makes
-abbrev pub adds_reference : ℕ → Text → ℕ → Text → Option ColumnConstraint → Catalog → Catalog
+abbrev pub adds_reference : ℕ → Text → ℕ → Text → Option SimpleConstraint → Catalog → Catalog
 adds_reference number table col name None cat = cat
 adds_reference number table col name (Some PrimaryKey) cat = cat
 adds_reference number table col name (Some (References parent decl)) cat = adds_foreign_key number table col name decl (referred parent cat) cat
 
-abbrev pub adds_references : ℕ → Text → ℕ → List ColumnItem → Catalog → Catalog
+abbrev pub adds_references : ℕ → Text → ℕ → List SimpleColumn → Catalog → Catalog
 adds_references number table col [] cat = cat
 adds_references number table col (item ∷ items) cat =
     adds_references number table (col + 1) items (adds_reference number table col item.name item.constraint cat)
 
 -- the table, then its keys, then its foreign keys
-abbrev pub creates : Text → List ColumnItem → Catalog → Catalog
+abbrev pub creates : Text → List SimpleColumn → Catalog → Catalog
 creates table items cat =
     adds_references (length cat.tables) table 0 items (adds_keys (length cat.tables) table 0 items (adds_table table items cat))
 
-abbrev pub defines : Statement → Catalog → Catalog
+abbrev pub defines : SimpleStatement → Catalog → Catalog
 defines (CreateTable table items) cat = creates table items cat
 defines (Insert table rows) cat = cat
 defines (Delete table) cat = cat
@@ -101,15 +101,15 @@ defines Begin cat = cat
 defines Commit cat = cat
 defines Rollback cat = cat
 
-abbrev pub setup_from : Catalog → List Placed → Catalog
+abbrev pub setup_from : Catalog → List SimplePlaced → Catalog
 setup_from cat [] = cat
 setup_from cat (placed ∷ others) = setup_from (defines placed.statement cat) others
 
-abbrev pub catalog_of : Script → Catalog
+abbrev pub catalog_of : SimpleScript → Catalog
 catalog_of script = setup_from no_tables script.setup
 
 -- what a statement says; none where it is no statement of a session, or its table isn't there
-abbrev pub bound : Catalog → Statement → Option Bound
+abbrev pub bound : Catalog → SimpleStatement → Option Bound
 bound cat (CreateTable table items) = None
 bound cat (Insert table rows) = option_map (λ number. InsertRows number rows) (table_number table cat)
 bound cat (Delete table) = option_map DeleteRows (table_number table cat)
@@ -117,7 +117,7 @@ bound cat Begin = Some BeginBlock
 bound cat Commit = Some CommitBlock
 bound cat Rollback = Some RollbackBlock
 
-abbrev pub bound_statements : Catalog → SessionText → List Bound
+abbrev pub bound_statements : Catalog → SimpleSession → List Bound
 bound_statements cat session = filter_map (λ placed. bound cat placed.statement) session.statements
 
 -- a script as it is run
@@ -126,7 +126,7 @@ pub record Program : Type 0 where
   pub names : List Text
   pub sessions : List (List Bound)
 
-abbrev pub program_of : Script → Program
+abbrev pub program_of : SimpleScript → Program
 program_of script =
     record {
       catalog = catalog_of script;

@@ -8,6 +8,7 @@ mod list;
 mod numbers;
 mod reply;
 mod script;
+mod simple;
 mod text;
 mod value;
 
@@ -17,8 +18,9 @@ pub use fault::{Code, SqlFault};
 pub use list::List;
 pub use numbers::{ColNo, FkNo, RowNo, TabNo};
 pub use reply::ReplyLine;
-pub use script::{
-    Bound, ColumnConstraint, ColumnItem, Item, Kind, Placed, Script, SessionText, Statement,
+pub use script::{Bound, Item, Kind};
+pub use simple::{
+    SimpleColumn, SimpleConstraint, SimplePlaced, SimpleScript, SimpleSession, SimpleStatement,
 };
 pub use std::alloc::AllocError as NoMemory;
 pub use text::TextVal;

@@ -3,7 +3,7 @@ use Rattle.std.proofs.Common.{◌≡◌, ℕ, ◌<◌, ◌≤◌, Bool, true, fa
 use Rattle.std.proofs.lemmas.List.{append-nil}
 use Rattle.std.proofs.lemmas.Bool.Decides.{nat_tests}
 use Rattle.aq_base.specs.Setup.{program_of}
-use Rattle.aq_base.specs.declared.script.Script.{Script}
+use Rattle.aq_base.specs.declared.simple.SimpleScript.{SimpleScript}
 use Rattle.aq_run.specs.States.{State, opening, session_at}
 use Rattle.aq_run.specs.Steps.{step, is_enabled}
 use Rattle.aq_run.specs.Runs.{Schedule, run, run_from, CanRunFrom, GoesByDefault, IsLeastEnabled, IsComplete, have_all_ended}
@@ -15,11 +15,11 @@ use Rattle.aq_journal.specs.Journals.{Journal, IsJournal, GoesOn, Finishes}
 pub is_enabled-past : (st : State) (s : ℕ) → length st.sessions ≤ s → is_enabled st s ≡ false
 is_enabled-past st s past = let none : ltb s (length st.sessions) ≡ false = grind (arith, nat_tests) in rw none refl
 
-pub IsJournal-start : (script : Script) (st : State) → st ≡ opening (program_of script) → IsJournal script st []
+pub IsJournal-start : (script : SimpleScript) (st : State) → st ≡ opening (program_of script) → IsJournal script st []
 unfolding run_from CanRunFrom
 IsJournal-start script st start = record { replay = start; can_run = tt }
 
-pub IsJournal-push : (script : Script) (st : State) (schedule : Schedule) (s : ℕ) → IsJournal script st schedule → is_enabled st s ≡ true
+pub IsJournal-push : (script : SimpleScript) (st : State) (schedule : Schedule) (s : ℕ) → IsJournal script st schedule → is_enabled st s ≡ true
     → IsJournal script (step (program_of script) st s) (schedule ++ s ∷ [])
 IsJournal-push script st schedule s journal enabled =
     record {

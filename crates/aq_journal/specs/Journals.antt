@@ -1,18 +1,18 @@
 -- A run with its schedule.
 use Rattle.std.specs.Prelude.{◌≡◌, ◌++◌}
 use Rattle.aq_base.specs.Setup.{program_of}
-use Rattle.aq_base.specs.declared.script.Script.{Script}
+use Rattle.aq_base.specs.declared.simple.SimpleScript.{SimpleScript}
 use Rattle.aq_run.specs.States.{State}
 use Rattle.aq_run.specs.Runs.{Schedule, run, run_from, IsSchedule, IsComplete, GoesByDefault}
 
 -- a script, the state of its run, and the sessions that stepped
 pub record Journal : Type 0 where
-  pub script : Script
+  pub script : SimpleScript
   pub state : State
   pub schedule : Schedule
 
 -- the state is that of the run of the script by the schedule, in which each session was enabled at its place
-pub record IsJournal (script : Script) (state : State) (schedule : Schedule) : Type 0 where
+pub record IsJournal (script : SimpleScript) (state : State) (schedule : Schedule) : Type 0 where
   pub replay : state ≡ run (program_of script) schedule
   pub can_run : IsSchedule (program_of script) schedule
 

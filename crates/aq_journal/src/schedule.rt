@@ -5,7 +5,7 @@ ghost use Rattle.std.specs.List.{flat_map};
 ghost use Rattle.aq_run.specs.Texts.{name_at, run_item, runs_of, schedule_line};
 
 use crate::print::push_run;
-use aq_base::{NoMemory, SessionText};
+use aq_base::{NoMemory, SimpleSession};
 use aq_xids::SessNo;
 use std::alloc::Global;
 use std::marker::Model;
@@ -71,7 +71,7 @@ impl Runs {
 
 fn push_item(
     out: &mut Vec<u8>,
-    sessions: &[SessionText],
+    sessions: &[SimpleSession],
     session: u8,
     steps: u64,
 ) -> Result<(), NoMemory>
@@ -83,7 +83,7 @@ fn push_item(
     }
 }
 
-fn push_items(out: &mut Vec<u8>, sessions: &[SessionText], steps: &[u8]) -> Result<(), NoMemory>
+fn push_items(out: &mut Vec<u8>, sessions: &[SimpleSession], steps: &[u8]) -> Result<(), NoMemory>
     ensures { OnOk result (out.new.items ≡ out.old.items ++ flat_map (run_item (map (λ s. s.name) sessions.now)) (runs_of steps.now)) }
 {
     let Some((first, others)) = steps.split_first() else {
@@ -109,7 +109,7 @@ fn push_items(out: &mut Vec<u8>, sessions: &[SessionText], steps: &[u8]) -> Resu
 /// The schedule's line: each longest run of steps of one session.
 pub fn push_schedule(
     out: &mut Vec<u8>,
-    sessions: &[SessionText],
+    sessions: &[SimpleSession],
     steps: &[u8],
 ) -> Result<(), NoMemory>
     ensures { OnOk result (out.new.items ≡ out.old.items ++ schedule_line (map (λ s. s.name) sessions.now) steps.now) }

@@ -8,12 +8,12 @@ ghost use Rattle.aq_machine.specs.Givens.{given_shown};
 
 use crate::print::{push_place, push_reply, push_table};
 use crate::schedule::push_schedule;
-use aq_base::{List, NoMemory, SessionText, TabNo, Table};
+use aq_base::{List, NoMemory, SimpleSession, TabNo, Table};
 use aq_machine::{Given, Machine};
 use aq_xids::SessNo;
 use std::alloc::Global;
 
-fn name_of(sessions: &[SessionText], s: SessNo) -> &str
+fn name_of(sessions: &[SimpleSession], s: SessNo) -> &str
     ensures { result.now ≡ name_at (map (λ session. session.name) sessions.now) s.0 }
 {
     match sessions.get(usize::from(s.0)) {
@@ -22,7 +22,7 @@ fn name_of(sessions: &[SessionText], s: SessNo) -> &str
     }
 }
 
-fn push_given(out: &mut Vec<u8>, sessions: &[SessionText], given: &Given) -> Result<(), NoMemory>
+fn push_given(out: &mut Vec<u8>, sessions: &[SimpleSession], given: &Given) -> Result<(), NoMemory>
     ensures { OnOk result (out.new.items ≡ out.old.items ++ given_text (map (λ s. s.name) sessions.now) (given_shown given.now)) }
 {
     push_place(out, name_of(sessions, given.session), given.statement)?;
@@ -32,7 +32,7 @@ fn push_given(out: &mut Vec<u8>, sessions: &[SessionText], given: &Given) -> Res
 
 fn push_replies(
     out: &mut Vec<u8>,
-    sessions: &[SessionText],
+    sessions: &[SimpleSession],
     replies: &[Given],
 ) -> Result<(), NoMemory>
     ensures { OnOk result (out.new.items ≡ out.old.items ++ replies_text (map (λ s. s.name) sessions.now) (map given_shown replies.now)) }

@@ -5,7 +5,7 @@ use Rattle.aq_base.specs.Maps.{KeysRise}
 use Rattle.aq_base.specs.Databases.{Database}
 use Rattle.aq_base.specs.References.{ReferencesHold, KeysAreUnique, NotNullHolds}
 use Rattle.aq_base.specs.Setup.{Program, program_of}
-use Rattle.aq_base.specs.declared.script.Script.{Script}
+use Rattle.aq_base.specs.declared.simple.SimpleScript.{SimpleScript}
 use Rattle.aq_run.specs.States.{State}
 use Rattle.aq_run.specs.Runs.{Schedule, IsSchedule, run}
 
@@ -24,5 +24,5 @@ DatabasesStand program st = (db : Database) → Contains st.world.history db →
 -- and in every state of every run of a script with one session at the most
 abbrev pub CommittedDatabasesStand : Type 0
 CommittedDatabasesStand =
-    (script : Script) (schedule : Schedule) → length script.sessions ≤ 1 → IsSchedule (program_of script) schedule →
+    (script : SimpleScript) (schedule : Schedule) → length script.sessions ≤ 1 → IsSchedule (program_of script) schedule →
     DatabasesStand (program_of script) (run (program_of script) schedule)

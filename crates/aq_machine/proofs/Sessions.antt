@@ -4,18 +4,18 @@ use Rattle.std.proofs.lemmas.Bool.{leb-true, ltb-true, and_parts, not-true}
 use Rattle.aq_base.specs.Catalogs.{Catalog}
 use Rattle.aq_base.specs.Scripts.{fits_first_language}
 use Rattle.aq_base.specs.Setup.{catalog_of, program_of}
-use Rattle.aq_base.specs.declared.script.Script.{Script}
+use Rattle.aq_base.specs.declared.simple.SimpleScript.{SimpleScript}
 use Rattle.aq_base.specs.declared.script.Bound.{Bound}
 use Rattle.aq_run.specs.States.{World, Session, State}
 use Rattle.aq_run.specs.Steps.{step, plan_of, effects_of, with_scene, is_enabled}
 use Rattle.aq_machine.specs.Runnings.{StepsTo}
 
 -- a script of the first language has one session at the most
-pub one_session : (script : Script) → fits_first_language script ≡ true → length script.sessions ≤ 1
+pub one_session : (script : SimpleScript) → fits_first_language script ≡ true → length script.sessions ≤ 1
 one_session script fits = leb-true _ _ (and_parts _ _ (and_parts _ _ (and_parts _ _ (and_parts _ _ fits).0).0).0).1
 
 -- one step of the one session
-pub step-one : (script : Script) (catalog : Catalog) (statements : List Bound) (world after : World) (session left : Session) (s : ℕ)
+pub step-one : (script : SimpleScript) (catalog : Catalog) (statements : List Bound) (world after : World) (session left : Session) (s : ℕ)
     → catalog ≡ catalog_of script → (program_of script).sessions ≡ statements ∷ [] → is_enabled (record { world = world; sessions = session ∷ [] }) s ≡ true
     → StepsTo catalog s (slice_get statements session.next) world session after left
     → record { world = after; sessions = left ∷ [] } ≡ step (program_of script) (record { world = world; sessions = session ∷ [] }) s

@@ -3,7 +3,7 @@ use Rattle.std.specs.Prelude.{◌≡◌, List, map, Option, Some, None}
 use Rattle.std.specs.Option.{option_to_list}
 use Rattle.aq_base.specs.Catalogs.{Catalog}
 use Rattle.aq_base.specs.Setup.{catalog_of, program_of}
-use Rattle.aq_base.specs.declared.script.Script.{Script}
+use Rattle.aq_base.specs.declared.simple.SimpleScript.{SimpleScript}
 use Rattle.aq_base.specs.declared.script.Bound.{Bound}
 use Rattle.aq_run.specs.States.{World, Session, at_start}
 use Rattle.aq_machine.specs.Runnings.{Stands}
@@ -12,7 +12,7 @@ abbrev pub StandsIn : World → Option Session → Type 0
 StandsIn world None = Unit {0}
 StandsIn world (Some session) = Stands world session
 
-pub record IsMachine (script : Script) (catalog : Catalog) (statements : List Bound) (world : World) (session : Option Session) : Type 0 where
+pub record IsMachine (script : SimpleScript) (catalog : Catalog) (statements : List Bound) (world : World) (session : Option Session) : Type 0 where
   pub catalog_is : catalog ≡ catalog_of script
   pub statements_are : (program_of script).sessions ≡ map (λ _. statements) (option_to_list session)
   pub stands : StandsIn world session

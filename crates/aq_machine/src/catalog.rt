@@ -1,12 +1,13 @@
 ghost use Rattle.std.specs.Prelude.{◌≡◌, ◌+◌, ◌<◌, ◌≤◌, true, ◌==◌, Some, map, length, position, find, option_copied, IfSome, OnOk, IfOk};
 ghost use Rattle.aq_base.specs.Names.{same_text, primary_key_name, foreign_key_name};
 ghost use Rattle.aq_base.specs.Setup.{no_tables, table_number, primary_cols, referred, column_of, adds_table, adds_key, adds_keys, adds_foreign_key, adds_reference, adds_references, primary_items, is_primary, creates, defines, catalog_of, bound, bound_statements};
-ghost use Rattle.aq_base.specs.declared.script.Statement.TheVariants.{Insert, Delete};
+ghost use Rattle.aq_base.specs.declared.simple.SimpleStatement.TheVariants.{Insert, Delete};
 ghost use Rattle.aq_base.specs.Scripts.{can_create, can_define, can_set_up};
 
 use aq_base::{
-    Bound, ColNo, Column, ColumnConstraint, ColumnItem, Copies, Decl, Does, FkNo, ForeignKey, List,
-    NoMemory, Op, Row, Script, SessionText, Statement, TabNo, Table, TextVal, Trigger, UniqueKey,
+    Bound, ColNo, Column, Copies, Decl, Does, FkNo, ForeignKey, List, NoMemory, Op, Row,
+    SimpleColumn, SimpleConstraint, SimpleScript, SimpleSession, SimpleStatement, TabNo, Table,
+    TextVal, Trigger, UniqueKey,
 };
 use std::alloc::Global;
 use std::marker::Model;
@@ -60,7 +61,7 @@ fn primary_key_of(keys: &[UniqueKey], table: TabNo) -> Option<&UniqueKey>
     None
 }
 
-fn columns_of(alloc: Global, items: &[ColumnItem]) -> Result<List<Column>, NoMemory>
+fn columns_of(alloc: Global, items: &[SimpleColumn]) -> Result<List<Column>, NoMemory>
     ensures { IfOk result (λ cols. cols ≡ map column_of items.now) }
 {
     let mut cols = List::new(alloc);
@@ -73,14 +74,14 @@ fn columns_of(alloc: Global, items: &[ColumnItem]) -> Result<List<Column>, NoMem
     Ok(cols)
 }
 
-fn is_primary_key(constraint: &Option<ColumnConstraint>) -> bool
+fn is_primary_key(constraint: &Option<SimpleConstraint>) -> bool
     ensures { result ≡ is_primary constraint.now }
 {
-    matches!(constraint, Some(ColumnConstraint::PrimaryKey))
+    matches!(constraint, Some(SimpleConstraint::PrimaryKey))
 }
 
 /// The columns that hold no null: those of the primary key.
-fn not_null_of(alloc: Global, items: &[ColumnItem]) -> Result<List<ColNo>, NoMemory>
+fn not_null_of(alloc: Global, items: &[SimpleColumn]) -> Result<List<ColNo>, NoMemory>
     requires { length items.now ≤ 32 }
     ensures { IfOk result (λ cols. cols ≡ primary_items 0 items.now) }
 {
@@ -168,11 +169,11 @@ impl Catalog {
         number: TabNo,
         table: &TextVal,
         col: ColNo,
-        constraint: &Option<ColumnConstraint>,
+        constraint: &Option<SimpleConstraint>,
     ) -> Result<(), NoMemory>
         ensures { OnOk result (self.new ≡ adds_key number table.now col constraint.now self.old) }
     {
-        if let Some(ColumnConstraint::PrimaryKey) = constraint {
+        if let Some(SimpleConstraint::PrimaryKey) = constraint {
             self.keys.push(UniqueKey {
                 name: name_of_primary_key(alloc, table)?,
                 table: number,
@@ -187,7 +188,7 @@ impl Catalog {
         alloc: Global,
         number: TabNo,
         table: &TextVal,
-        items: &[ColumnItem],
+        items: &[SimpleColumn],
     ) -> Result<(), NoMemory>
         requires { length items.now ≤ 32 }
         ensures keys { OnOk result (self.new ≡ adds_keys number table.now 0 items.now self.old) }
@@ -247,14 +248,14 @@ impl Catalog {
         table: &TextVal,
         col: ColNo,
         name: &TextVal,
-        constraint: &Option<ColumnConstraint>,
+        constraint: &Option<SimpleConstraint>,
     ) -> Result<(), NoMemory>
         requires { length self.old.fks < 65535 }
         ensures added { OnOk result (self.new ≡ adds_reference number table.now col name.now constraint.now self.old) }
         ensures count { OnOk result (length self.new.fks ≤ length self.old.fks + 1) }
     {
         let Some(
-            ColumnConstraint::References {
+            SimpleConstraint::References {
                 table: parent,
                 decl,
             },
@@ -273,7 +274,7 @@ impl Catalog {
         alloc: Global,
         number: TabNo,
         table: &TextVal,
-        items: &[ColumnItem],
+        items: &[SimpleColumn],
     ) -> Result<(), NoMemory>
         requires items { length items.now ≤ 32 }
         requires room { length self.old.fks ≤ 128 }
@@ -296,7 +297,7 @@ impl Catalog {
         &mut self,
         alloc: Global,
         table: &TextVal,
-        items: &[ColumnItem],
+        items: &[SimpleColumn],
     ) -> Result<(), NoMemory>
         requires room { length self.old.tables < 64 }
         requires items { length items.now ≤ 32 }
@@ -313,7 +314,7 @@ impl Catalog {
         &mut self,
         alloc: Global,
         table: &TextVal,
-        items: &[ColumnItem],
+        items: &[SimpleColumn],
     ) -> Result<(), NoMemory>
         requires { can_create self.old table.now items.now ≡ true }
         ensures { OnOk result (self.new ≡ creates table.now items.now self.old) }
@@ -324,23 +325,27 @@ impl Catalog {
         self.add_references(alloc, number, table, items)
     }
 
-    fn define(&mut self, alloc: Global, statement: &Statement) -> Result<(), NoMemory>
+    fn define(&mut self, alloc: Global, statement: &SimpleStatement) -> Result<(), NoMemory>
         requires { can_define self.old statement.now ≡ true }
         ensures { OnOk result (self.new ≡ defines statement.now self.old) }
     {
         match statement {
-            Statement::CreateTable { table, items } => self.create(alloc, table, items.as_slice()),
-            Statement::Insert { .. }
-            | Statement::Delete { .. }
-            | Statement::Begin
-            | Statement::Commit
-            | Statement::Rollback => Ok(()),
+            SimpleStatement::CreateTable { table, items } => self.create(
+                alloc,
+                table,
+                items.as_slice(),
+            ),
+            SimpleStatement::Insert { .. }
+            | SimpleStatement::Delete { .. }
+            | SimpleStatement::Begin
+            | SimpleStatement::Commit
+            | SimpleStatement::Rollback => Ok(()),
         }
     }
 }
 
 /// What the setup of a script makes.
-pub(crate) fn catalog_for(alloc: Global, script: &Script) -> Result<Catalog, NoMemory>
+pub(crate) fn catalog_for(alloc: Global, script: &SimpleScript) -> Result<Catalog, NoMemory>
     requires { can_set_up no_tables script.now.setup ≡ true }
     ensures { IfOk result (λ c. c ≡ catalog_of script.now) }
 {
@@ -376,16 +381,16 @@ fn bound_delete(catalog: &Catalog, table: &TextVal) -> Option<Bound>
     }
 }
 
-fn bound_of(catalog: &Catalog, statement: &Statement) -> Result<Option<Bound>, NoMemory>
+fn bound_of(catalog: &Catalog, statement: &SimpleStatement) -> Result<Option<Bound>, NoMemory>
     ensures { IfOk result (λ found. found ≡ bound catalog.now statement.now) }
 {
     match statement {
-        Statement::CreateTable { .. } => Ok(None),
-        Statement::Insert { table, rows } => bound_insert(catalog, table, rows),
-        Statement::Delete { table } => Ok(bound_delete(catalog, table)),
-        Statement::Begin => Ok(Some(Bound::BeginBlock)),
-        Statement::Commit => Ok(Some(Bound::CommitBlock)),
-        Statement::Rollback => Ok(Some(Bound::RollbackBlock)),
+        SimpleStatement::CreateTable { .. } => Ok(None),
+        SimpleStatement::Insert { table, rows } => bound_insert(catalog, table, rows),
+        SimpleStatement::Delete { table } => Ok(bound_delete(catalog, table)),
+        SimpleStatement::Begin => Ok(Some(Bound::BeginBlock)),
+        SimpleStatement::Commit => Ok(Some(Bound::CommitBlock)),
+        SimpleStatement::Rollback => Ok(Some(Bound::RollbackBlock)),
     }
 }
 
@@ -393,7 +398,7 @@ fn bound_of(catalog: &Catalog, statement: &Statement) -> Result<Option<Bound>, N
 pub(crate) fn statements_for(
     alloc: Global,
     catalog: &Catalog,
-    session: &SessionText,
+    session: &SimpleSession,
 ) -> Result<List<Bound>, NoMemory>
     ensures { IfOk result (λ statements. statements ≡ bound_statements catalog.now session.now) }
 {

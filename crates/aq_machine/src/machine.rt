@@ -12,7 +12,7 @@ use crate::replies::Given;
 use crate::session::Session;
 use crate::step::step_session;
 use crate::world::World;
-use aq_base::{Bound, List, NoMemory, Row, Script, SessionText, TabNo, Table};
+use aq_base::{Bound, List, NoMemory, Row, SimpleScript, SimpleSession, TabNo, Table};
 use aq_xids::SessNo;
 use std::alloc::Global;
 use std::marker::Model;
@@ -21,7 +21,7 @@ use std::marker::Model;
 #[derive(Drop)]
 pub struct Machine {
     alloc: Global,
-    script: Script,
+    script: SimpleScript,
     catalog: Catalog,
     /// The session's statements; the language has one session at the most.
     statements: List<Bound>,
@@ -45,7 +45,7 @@ impl Model for Machine {
 fn opened(
     alloc: Global,
     catalog: &Catalog,
-    sessions: &[SessionText],
+    sessions: &[SimpleSession],
 ) -> Result<(List<Bound>, Option<Session>), NoMemory>
     requires { length sessions.now ≤ 1 }
     ensures { IfOk result (λ made. OpensSessions (map (bound_statements catalog.now) sessions.now) made.0 made.1) }
@@ -61,7 +61,7 @@ fn opened(
 
 impl Machine {
     /// The machine before the first step. The error is want of memory.
-    pub fn open(alloc: Global, script: Script) -> Result<Machine, NoMemory>
+    pub fn open(alloc: Global, script: SimpleScript) -> Result<Machine, NoMemory>
         requires { fits_first_language script ≡ true }
         ensures { IfOk result (λ m. m ≡ record { script = script; state = opening (program_of script) }) }
     {
@@ -141,7 +141,7 @@ impl Machine {
     }
 
     /// The script.
-    pub fn script(&self) -> &Script
+    pub fn script(&self) -> &SimpleScript
         ensures { result.now ≡ self.now.script }
     {
         &self.script

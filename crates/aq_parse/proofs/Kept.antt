@@ -1,7 +1,7 @@
 -- The names and limits of a script, by the statements before a place and by the catalog that these make.
 use Rattle.std.proofs.Common.{◌≡◌, ℕ, zero, suc, ◌+◌, ◌≤◌, Bool, true, ◌&&◌, ◌||◌, List, [], ◌∷◌, ◌++◌, length, map, take, drop, Some, refl, ap, arith, add-one}
 use Rattle.std.specs.List.{list_any, slice_get}
-use Rattle.aq_base.specs.declared.script.Placed.{Placed}
+use Rattle.aq_base.specs.declared.simple.SimplePlaced.{SimplePlaced}
 use Rattle.aq_parse.specs.Conditions.{definition_kept, setup_kept}
 use Rattle.aq_parse.proofs.Basics.{some_is, none_is_not}
 
@@ -21,7 +21,7 @@ drop_one {X = X} zero (y ∷ ys) x e = ap (λ (z : X). z ∷ ys) (some_is y x e)
 drop_one (suc n) [] x e = none_is_not x e
 drop_one (suc n) (y ∷ ys) x e = drop_one n ys x e
 
-pub setup_step : (setup : List Placed) (at : ℕ) (placed : Placed) → slice_get setup at ≡ Some placed
+pub setup_step : (setup : List SimplePlaced) (at : ℕ) (placed : SimplePlaced) → slice_get setup at ≡ Some placed
     → setup_kept (take at setup) (drop at setup) ≡ (definition_kept (take at setup) placed.statement && setup_kept (take (at + 1) setup) (drop (at + 1) setup))
 setup_step setup at placed e = rw (add-one, drop_one at setup placed e, take_one at setup placed e) refl
 
@@ -31,5 +31,5 @@ drop_all zero (y ∷ ys) le = absurd (omega arith)
 drop_all (suc n) [] le = refl
 drop_all (suc n) (y ∷ ys) le = drop_all n ys (omega arith)
 
-pub setup_ends : (setup : List Placed) (at : ℕ) → length setup ≤ at → setup_kept (take at setup) (drop at setup) ≡ true
+pub setup_ends : (setup : List SimplePlaced) (at : ℕ) → length setup ≤ at → setup_kept (take at setup) (drop at setup) ≡ true
 setup_ends setup at le = rw (drop_all at setup le) refl

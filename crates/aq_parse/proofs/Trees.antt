@@ -8,11 +8,11 @@ use Rattle.aq_base.specs.declared.value.Value.TheVariants.{Null, Bool as Truth, 
 use Rattle.aq_base.specs.declared.catalog.Decl.{Decl}
 use Rattle.aq_base.specs.declared.script.Kind.{Kind}
 use Rattle.aq_base.specs.declared.script.Kind.TheVariants as kinds
-use Rattle.aq_base.specs.declared.script.ColumnConstraint.{ColumnConstraint}
-use Rattle.aq_base.specs.declared.script.ColumnConstraint.TheVariants.{PrimaryKey, References}
-use Rattle.aq_base.specs.declared.script.ColumnItem.{ColumnItem}
-use Rattle.aq_base.specs.declared.script.Statement.{Statement}
-use Rattle.aq_base.specs.declared.script.Statement.TheVariants.{CreateTable, Insert, Delete, Begin, Commit, Rollback}
+use Rattle.aq_base.specs.declared.simple.SimpleConstraint.{SimpleConstraint}
+use Rattle.aq_base.specs.declared.simple.SimpleConstraint.TheVariants.{PrimaryKey, References}
+use Rattle.aq_base.specs.declared.simple.SimpleColumn.{SimpleColumn}
+use Rattle.aq_base.specs.declared.simple.SimpleStatement.{SimpleStatement}
+use Rattle.aq_base.specs.declared.simple.SimpleStatement.TheVariants.{CreateTable, Insert, Delete, Begin, Commit, Rollback}
 use Rattle.aq_parse.specs.declared.token.Token.{Token}
 use Rattle.aq_parse.specs.declared.token.Token.TheVariants.{Word, Integer, Symbol, Setup, Session}
 use Rattle.aq_parse.specs.declared.token.Lexed.{Lexed}
@@ -182,21 +182,21 @@ timed_no_longer true true tokens rest h = elim h [
 
 -- ---- columns
 
-constraint_takes : (tokens : List Lexed) (found : Option ColumnConstraint × List Lexed) → constraint_at tokens ≡ Some found → SpellsConstraint found.0 tokens found.1
+constraint_takes : (tokens : List Lexed) (found : Option SimpleConstraint × List Lexed) → constraint_at tokens ≡ Some found → SpellsConstraint found.0 tokens found.1
 unfolding constraint_at
 constraint_takes tokens found e =
-    let primary : List Lexed → Option (Option ColumnConstraint × List Lexed) = λ key. behind_one (is_keyword (codes "key")) key >>= λ rest. Some (Some PrimaryKey, rest) in
-    let timed : Text × List Lexed → Option (Option ColumnConstraint × List Lexed) = λ parent. timing_at parent.1 >>= λ timing. Some (Some (References parent.0 timing.0), timing.1) in
-    let references : List Lexed → Option (Option ColumnConstraint × List Lexed) = λ table. name_at table >>= timed in
-    let second : Option (Option ColumnConstraint × List Lexed) = cond (begins_with (is_keyword (codes "references")) tokens) (behind_one (is_keyword (codes "references")) tokens >>= references) (Some (None, tokens)) in
+    let primary : List Lexed → Option (Option SimpleConstraint × List Lexed) = λ key. behind_one (is_keyword (codes "key")) key >>= λ rest. Some (Some PrimaryKey, rest) in
+    let timed : Text × List Lexed → Option (Option SimpleConstraint × List Lexed) = λ parent. timing_at parent.1 >>= λ timing. Some (Some (References parent.0 timing.0), timing.1) in
+    let references : List Lexed → Option (Option SimpleConstraint × List Lexed) = λ table. name_at table >>= timed in
+    let second : Option (Option SimpleConstraint × List Lexed) = cond (begins_with (is_keyword (codes "references")) tokens) (behind_one (is_keyword (codes "references")) tokens >>= references) (Some (None, tokens)) in
     elim (chosen (begins_with (is_keyword (codes "primary")) tokens) (behind_one (is_keyword (codes "primary")) tokens >>= primary) second (Some found) e) [
       | inl g ↦
           let a = bind_some (behind_one (is_keyword (codes "primary")) tokens) primary found g.1 in
           let b = bind_some (behind_one (is_keyword (codes "key")) a.0) (λ rest. Some (Some PrimaryKey, rest)) found a.2 in
           let ta = one_takes (is_keyword (codes "primary")) (Word (codes "primary")) tokens a.0 (keyword_test (codes "primary")) a.1 in
           let tb = one_takes (is_keyword (codes "key")) (Word (codes "key")) a.0 b.0 (keyword_test (codes "key")) b.1 in
-          let made : Option ColumnConstraint × List Lexed = (Some PrimaryKey, b.0) in
-          subst (λ (f : Option ColumnConstraint × List Lexed). SpellsConstraint f.0 tokens f.1) (some_is made found b.2)
+          let made : Option SimpleConstraint × List Lexed = (Some PrimaryKey, b.0) in
+          subst (λ (f : Option SimpleConstraint × List Lexed). SpellsConstraint f.0 tokens f.1) (some_is made found b.2)
           (begins_then (Word (codes "primary") ∷ []) (Word (codes "key") ∷ []) tokens a.0 b.0 ta tb)
       | inr g ↦ elim (chosen (begins_with (is_keyword (codes "references")) tokens) (behind_one (is_keyword (codes "references")) tokens >>= references) (Some (None, tokens)) (Some found) g.1) [
         | inl k ↦
@@ -206,16 +206,16 @@ constraint_takes tokens found e =
             let ta = one_takes (is_keyword (codes "references")) (Word (codes "references")) tokens a.0 (keyword_test (codes "references")) a.1 in
             let tb = name_takes a.0 b.0 b.1 in
             let tc = timing_takes b.0.1 c.0 c.1 in
-            let made : Option ColumnConstraint × List Lexed = (Some (References b.0.0 c.0.0), c.0.1) in
-            subst (λ (f : Option ColumnConstraint × List Lexed). SpellsConstraint f.0 tokens f.1) (some_is made found c.2)
+            let made : Option SimpleConstraint × List Lexed = (Some (References b.0.0 c.0.0), c.0.1) in
+            subst (λ (f : Option SimpleConstraint × List Lexed). SpellsConstraint f.0 tokens f.1) (some_is made found c.2)
             (b.0.1, begins_then (Word (codes "references") ∷ []) (Word b.0.0 ∷ []) tokens a.0 b.0.1 ta tb, tc)
         | inr k ↦
-            let made : Option ColumnConstraint × List Lexed = (None, tokens) in
-            subst (λ (f : Option ColumnConstraint × List Lexed). SpellsConstraint f.0 tokens f.1) (some_is made found k.1) refl
+            let made : Option SimpleConstraint × List Lexed = (None, tokens) in
+            subst (λ (f : Option SimpleConstraint × List Lexed). SpellsConstraint f.0 tokens f.1) (some_is made found k.1) refl
       ]
     ]
 
-constraint_again : (constraint : Option ColumnConstraint) (tokens rest : List Lexed) → SpellsConstraint constraint tokens rest → begins_with is_symbol_token rest ≡ true → constraint_at tokens ≡ Some (constraint, rest)
+constraint_again : (constraint : Option SimpleConstraint) (tokens rest : List Lexed) → SpellsConstraint constraint tokens rest → begins_with is_symbol_token rest ≡ true → constraint_at tokens ≡ Some (constraint, rest)
 unfolding constraint_at
 constraint_again None tokens rest h follows =
     rw h (cond-false (begins_with (is_keyword (codes "primary")) rest) _ _ (no_keyword_first (codes "primary") rest follows)
@@ -228,7 +228,7 @@ constraint_again (Some (References parent when)) tokens rest h follows =
     let k = f.3 in
     rw (f.2, k.2, k.3, timed_again when.deferrable when.deferred h.0 rest h.2 follows) refl
 
-constraint_no_longer : (constraint : Option ColumnConstraint) (tokens rest : List Lexed) → SpellsConstraint constraint tokens rest → length rest ≤ length tokens
+constraint_no_longer : (constraint : Option SimpleConstraint) (tokens rest : List Lexed) → SpellsConstraint constraint tokens rest → length rest ≤ length tokens
 constraint_no_longer None tokens rest h = begins_no_longer [] tokens rest h
 constraint_no_longer (Some PrimaryKey) tokens rest h = begins_no_longer (Word (codes "primary") ∷ Word (codes "key") ∷ []) tokens rest h
 constraint_no_longer (Some (References parent when)) tokens rest h =
@@ -236,7 +236,7 @@ constraint_no_longer (Some (References parent when)) tokens rest h =
     let b = timed_no_longer when.deferrable when.deferred h.0 rest h.2 in
     omega (arith, a, b)
 
-item_takes : (tokens : List Lexed) (found : ColumnItem × List Lexed) → item_at tokens ≡ Some found → SpellsItem found.0 tokens found.1
+item_takes : (tokens : List Lexed) (found : SimpleColumn × List Lexed) → item_at tokens ≡ Some found → SpellsItem found.0 tokens found.1
 unfolding item_at
 item_takes tokens found e =
     let a = bind_some (name_at tokens) (λ name. behind_one (is_keyword (codes "integer")) name.1 >>= λ kind. constraint_at kind >>= λ constraint. Some (record { name = name.0; kind = kinds.Integer; constraint = constraint.0 }, constraint.1)) found e in
@@ -245,14 +245,14 @@ item_takes tokens found e =
     let ta = name_takes tokens a.0 a.1 in
     let tb = one_takes (is_keyword (codes "integer")) (Word (codes "integer")) a.0.1 b.0 (keyword_test (codes "integer")) b.1 in
     let tc = constraint_takes b.0 c.0 c.1 in
-    let made : ColumnItem × List Lexed = (record { name = a.0.0; kind = kinds.Integer; constraint = c.0.0 }, c.0.1) in
-    subst (λ (f : ColumnItem × List Lexed). SpellsItem f.0 tokens f.1) (some_is made found c.2)
+    let made : SimpleColumn × List Lexed = (record { name = a.0.0; kind = kinds.Integer; constraint = c.0.0 }, c.0.1) in
+    subst (λ (f : SimpleColumn × List Lexed). SpellsItem f.0 tokens f.1) (some_is made found c.2)
     (b.0, begins_then (Word a.0.0 ∷ []) (Word (codes "integer") ∷ []) tokens a.0.1 b.0 ta tb, tc)
 
 is_integer : (kind : Kind) → kind ≡ kinds.Integer
 is_integer kinds.Integer = refl
 
-item_again : (item : ColumnItem) (tokens rest : List Lexed) → SpellsItem item tokens rest → begins_with is_symbol_token rest ≡ true → item_at tokens ≡ Some (item, rest)
+item_again : (item : SimpleColumn) (tokens rest : List Lexed) → SpellsItem item tokens rest → begins_with is_symbol_token rest ≡ true → item_at tokens ≡ Some (item, rest)
 unfolding item_at
 item_again item tokens rest h follows =
     let a = name_again item.name (Word (codes "integer") ∷ []) tokens h.0 h.1 in
@@ -260,7 +260,7 @@ item_again item tokens rest h follows =
     let c = constraint_again item.constraint h.0 rest h.2 follows in
     rw (a.1, b, c) (ap (λ (kind : Kind). Some (record { name = item.name; kind = kind; constraint = item.constraint }, rest)) (sym (is_integer item.kind)))
 
-item_no_longer : (item : ColumnItem) (tokens rest : List Lexed) → SpellsItem item tokens rest → length rest ≤ length tokens
+item_no_longer : (item : SimpleColumn) (tokens rest : List Lexed) → SpellsItem item tokens rest → length rest ≤ length tokens
 item_no_longer item tokens rest h =
     let a = begins_no_longer (Word item.name ∷ Word (codes "integer") ∷ []) tokens h.0 h.1 in
     let b = constraint_no_longer item.constraint h.0 rest h.2 in
@@ -271,7 +271,7 @@ item_reader = record { takes = item_takes; again = item_again; no_longer = item_
 
 -- ---- statements
 
-create_takes : (tokens : List Lexed) (found : Statement × List Lexed) → create_at tokens ≡ Some found → SpellsStatement found.0 tokens found.1
+create_takes : (tokens : List Lexed) (found : SimpleStatement × List Lexed) → create_at tokens ≡ Some found → SpellsStatement found.0 tokens found.1
 unfolding create_at
 create_takes tokens found e =
     let a = bind_some (behind_one (is_keyword (codes "create")) tokens) (λ word. behind_one (is_keyword (codes "table")) word >>= λ named. name_at named >>= λ table. behind_one (is_mark 40) table.1 >>= λ inside. listed_at item_at inside >>= λ items. behind_one (is_mark 41) items.1 >>= λ rest. Some (CreateTable table.0 items.0, rest)) found e in
@@ -289,10 +289,10 @@ create_takes tokens found e =
     let named = begins_then (Word c.0.0 ∷ []) (opening ∷ []) b.0 c.0.1 d.0 tc td in
     let table = begins_then (Word (codes "table") ∷ []) (Word c.0.0 ∷ opening ∷ []) a.0 b.0 d.0 tb named in
     let front = begins_then (Word (codes "create") ∷ []) (Word (codes "table") ∷ Word c.0.0 ∷ opening ∷ []) tokens a.0 d.0 ta table in
-    let made : Statement × List Lexed = (CreateTable c.0.0 f.0.0, g.0) in
-    subst (λ (f : Statement × List Lexed). SpellsStatement f.0 tokens f.1) (some_is made found g.2) (d.0, front, (f.0.1, tf, tg))
+    let made : SimpleStatement × List Lexed = (CreateTable c.0.0 f.0.0, g.0) in
+    subst (λ (f : SimpleStatement × List Lexed). SpellsStatement f.0 tokens f.1) (some_is made found g.2) (d.0, front, (f.0.1, tf, tg))
 
-insert_takes : (tokens : List Lexed) (found : Statement × List Lexed) → insert_at tokens ≡ Some found → SpellsStatement found.0 tokens found.1
+insert_takes : (tokens : List Lexed) (found : SimpleStatement × List Lexed) → insert_at tokens ≡ Some found → SpellsStatement found.0 tokens found.1
 unfolding insert_at
 insert_takes tokens found e =
     let a = bind_some (behind_one (is_keyword (codes "insert")) tokens) (λ word. behind_one (is_keyword (codes "into")) word >>= λ named. name_at named >>= λ table. behind_one (is_keyword (codes "values")) table.1 >>= λ values. listed_at row_at values >>= λ rows. Some (Insert table.0 rows.0, rows.1)) found e in
@@ -308,10 +308,10 @@ insert_takes tokens found e =
     let named = begins_then (Word c.0.0 ∷ []) (Word (codes "values") ∷ []) b.0 c.0.1 d.0 tc td in
     let into = begins_then (Word (codes "into") ∷ []) (Word c.0.0 ∷ Word (codes "values") ∷ []) a.0 b.0 d.0 tb named in
     let front = begins_then (Word (codes "insert") ∷ []) (Word (codes "into") ∷ Word c.0.0 ∷ Word (codes "values") ∷ []) tokens a.0 d.0 ta into in
-    let made : Statement × List Lexed = (Insert c.0.0 f.0.0, f.0.1) in
-    subst (λ (f : Statement × List Lexed). SpellsStatement f.0 tokens f.1) (some_is made found f.2) (d.0, front, tf)
+    let made : SimpleStatement × List Lexed = (Insert c.0.0 f.0.0, f.0.1) in
+    subst (λ (f : SimpleStatement × List Lexed). SpellsStatement f.0 tokens f.1) (some_is made found f.2) (d.0, front, tf)
 
-delete_takes : (tokens : List Lexed) (found : Statement × List Lexed) → delete_at tokens ≡ Some found → SpellsStatement found.0 tokens found.1
+delete_takes : (tokens : List Lexed) (found : SimpleStatement × List Lexed) → delete_at tokens ≡ Some found → SpellsStatement found.0 tokens found.1
 unfolding delete_at
 delete_takes tokens found e =
     let a = bind_some (behind_one (is_keyword (codes "delete")) tokens) (λ word. behind_one (is_keyword (codes "from")) word >>= λ named. name_at named >>= λ table. Some (Delete table.0, table.1)) found e in
@@ -321,22 +321,22 @@ delete_takes tokens found e =
     let tb = one_takes (is_keyword (codes "from")) (Word (codes "from")) a.0 b.0 (keyword_test (codes "from")) b.1 in
     let tc = name_takes b.0 c.0 c.1 in
     let named = begins_then (Word (codes "from") ∷ []) (Word c.0.0 ∷ []) a.0 b.0 c.0.1 tb tc in
-    let made : Statement × List Lexed = (Delete c.0.0, c.0.1) in
-    subst (λ (f : Statement × List Lexed). SpellsStatement f.0 tokens f.1) (some_is made found c.2)
+    let made : SimpleStatement × List Lexed = (Delete c.0.0, c.0.1) in
+    subst (λ (f : SimpleStatement × List Lexed). SpellsStatement f.0 tokens f.1) (some_is made found c.2)
     (begins_then (Word (codes "delete") ∷ []) (Word (codes "from") ∷ Word c.0.0 ∷ []) tokens a.0 c.0.1 ta named)
 
 -- a statement that is one word, and no other
-one_word_takes : (word : Text) (statement : Statement) (tokens : List Lexed) (found : Statement × List Lexed) → one_word_at word statement tokens ≡ Some found
+one_word_takes : (word : Text) (statement : SimpleStatement) (tokens : List Lexed) (found : SimpleStatement × List Lexed) → one_word_at word statement tokens ≡ Some found
     → ((rest : List Lexed) → BeginsWith (Word word ∷ []) tokens rest → SpellsStatement statement tokens rest) → SpellsStatement found.0 tokens found.1
 one_word_takes word statement tokens found e spelled =
     let a = bind_some (behind_one (is_keyword word) tokens) (λ rest. Some (statement, rest)) found e in
-    subst (λ (f : Statement × List Lexed). SpellsStatement f.0 tokens f.1) (some_is (statement, a.0) found a.2)
+    subst (λ (f : SimpleStatement × List Lexed). SpellsStatement f.0 tokens f.1) (some_is (statement, a.0) found a.2)
     (spelled a.0 (one_takes (is_keyword word) (Word word) tokens a.0 (keyword_test word) a.1))
 
-block_takes : (tokens : List Lexed) (found : Statement × List Lexed) → block_at tokens ≡ Some found → SpellsStatement found.0 tokens found.1
+block_takes : (tokens : List Lexed) (found : SimpleStatement × List Lexed) → block_at tokens ≡ Some found → SpellsStatement found.0 tokens found.1
 unfolding block_at
 block_takes tokens found e =
-    let second : Option (Statement × List Lexed) = cond (begins_with (is_keyword (codes "commit")) tokens) (one_word_at (codes "commit") Commit tokens) (one_word_at (codes "rollback") Rollback tokens) in
+    let second : Option (SimpleStatement × List Lexed) = cond (begins_with (is_keyword (codes "commit")) tokens) (one_word_at (codes "commit") Commit tokens) (one_word_at (codes "rollback") Rollback tokens) in
     elim (chosen (begins_with (is_keyword (codes "begin")) tokens) (one_word_at (codes "begin") Begin tokens) second (Some found) e) [
       | inl g ↦ one_word_takes (codes "begin") Begin tokens found g.1 (λ rest h. h)
       | inr g ↦ elim (chosen (begins_with (is_keyword (codes "commit")) tokens) (one_word_at (codes "commit") Commit tokens) (one_word_at (codes "rollback") Rollback tokens) (Some found) g.1) [
@@ -345,11 +345,11 @@ block_takes tokens found e =
       ]
     ]
 
-pub statement_takes : (tokens : List Lexed) (found : Statement × List Lexed) → statement_at tokens ≡ Some found → SpellsStatement found.0 tokens found.1
+pub statement_takes : (tokens : List Lexed) (found : SimpleStatement × List Lexed) → statement_at tokens ≡ Some found → SpellsStatement found.0 tokens found.1
 unfolding statement_at
 statement_takes tokens found e =
-    let third : Option (Statement × List Lexed) = cond (begins_with (is_keyword (codes "delete")) tokens) (delete_at tokens) (block_at tokens) in
-    let second : Option (Statement × List Lexed) = cond (begins_with (is_keyword (codes "insert")) tokens) (insert_at tokens) third in
+    let third : Option (SimpleStatement × List Lexed) = cond (begins_with (is_keyword (codes "delete")) tokens) (delete_at tokens) (block_at tokens) in
+    let second : Option (SimpleStatement × List Lexed) = cond (begins_with (is_keyword (codes "insert")) tokens) (insert_at tokens) third in
     elim (chosen (begins_with (is_keyword (codes "create")) tokens) (create_at tokens) second (Some found) e) [
       | inl g ↦ create_takes tokens found g.1
       | inr g ↦ elim (chosen (begins_with (is_keyword (codes "insert")) tokens) (insert_at tokens) third (Some found) g.1) [
@@ -361,7 +361,7 @@ statement_takes tokens found e =
       ]
     ]
 
-create_again : (table : Text) (items : List ColumnItem) (tokens rest : List Lexed) → SpellsStatement (CreateTable table items) tokens rest → create_at tokens ≡ Some (CreateTable table items, rest)
+create_again : (table : Text) (items : List SimpleColumn) (tokens rest : List Lexed) → SpellsStatement (CreateTable table items) tokens rest → create_at tokens ≡ Some (CreateTable table items, rest)
 unfolding create_at
 create_again table items tokens rest h =
     let k = h.2 in
@@ -384,7 +384,7 @@ insert_again table rows tokens rest h symbol other =
     let listed = listed_again SpellsRow row_at row_reader rows h.0 rest h.2 symbol other in
     rw (a.1, b.1, c.1, d, listed) refl
 
-pub statement_again : (statement : Statement) (tokens rest : List Lexed) → SpellsStatement statement tokens rest
+pub statement_again : (statement : SimpleStatement) (tokens rest : List Lexed) → SpellsStatement statement tokens rest
     → begins_with is_symbol_token rest ≡ true → begins_with (is_mark 44) rest ≡ false → statement_at tokens ≡ Some (statement, rest)
 unfolding statement_at delete_at block_at
 statement_again (CreateTable table items) tokens rest h symbol other =
@@ -401,7 +401,7 @@ statement_again Begin tokens rest h symbol other = rw (h.2, h.3) refl
 statement_again Commit tokens rest h symbol other = rw (h.2, h.3) refl
 statement_again Rollback tokens rest h symbol other = rw (h.2, h.3) refl
 
-pub statement_no_longer : (statement : Statement) (tokens rest : List Lexed) → SpellsStatement statement tokens rest → length rest ≤ length tokens
+pub statement_no_longer : (statement : SimpleStatement) (tokens rest : List Lexed) → SpellsStatement statement tokens rest → length rest ≤ length tokens
 statement_no_longer (CreateTable table items) tokens rest h =
     let k = h.2 in
     let a = begins_no_longer (Word (codes "create") ∷ Word (codes "table") ∷ Word table ∷ opening ∷ []) tokens h.0 h.1 in

@@ -6,17 +6,17 @@ use Rattle.aq_base.specs.Values.{Row}
 use Rattle.aq_base.specs.Names.{Text, same_text, is_name, is_short, all_differ, primary_key_name, foreign_key_name}
 use Rattle.aq_base.specs.Setup.{is_primary}
 use Rattle.aq_base.specs.Scripts.{is_reference, rows_in_session}
-use Rattle.aq_base.specs.declared.script.ColumnConstraint.{ColumnConstraint}
-use Rattle.aq_base.specs.declared.script.ColumnConstraint.TheVariants.{PrimaryKey, References}
-use Rattle.aq_base.specs.declared.script.ColumnItem.{ColumnItem}
-use Rattle.aq_base.specs.declared.script.Statement.{Statement}
-use Rattle.aq_base.specs.declared.script.Statement.TheVariants.{CreateTable, Insert, Delete, Begin, Commit, Rollback}
-use Rattle.aq_base.specs.declared.script.Placed.{Placed}
-use Rattle.aq_base.specs.declared.script.SessionText.{SessionText}
-use Rattle.aq_base.specs.declared.script.Script.{Script}
+use Rattle.aq_base.specs.declared.simple.SimpleConstraint.{SimpleConstraint}
+use Rattle.aq_base.specs.declared.simple.SimpleConstraint.TheVariants.{PrimaryKey, References}
+use Rattle.aq_base.specs.declared.simple.SimpleColumn.{SimpleColumn}
+use Rattle.aq_base.specs.declared.simple.SimpleStatement.{SimpleStatement}
+use Rattle.aq_base.specs.declared.simple.SimpleStatement.TheVariants.{CreateTable, Insert, Delete, Begin, Commit, Rollback}
+use Rattle.aq_base.specs.declared.simple.SimplePlaced.{SimplePlaced}
+use Rattle.aq_base.specs.declared.simple.SimpleSession.{SimpleSession}
+use Rattle.aq_base.specs.declared.simple.SimpleScript.{SimpleScript}
 
 -- the columns of a statement that creates a table of a name
-abbrev pub created : Text → Statement → Option (List ColumnItem)
+abbrev pub created : Text → SimpleStatement → Option (List SimpleColumn)
 created name (CreateTable table items) = if same_text table name then Some items else None
 created name (Insert table rows) = None
 created name (Delete table) = None
@@ -25,35 +25,35 @@ created name Commit = None
 created name Rollback = None
 
 -- the columns of the first table of a name that statements create
-abbrev pub items_named : List Placed → Text → Option (List ColumnItem)
+abbrev pub items_named : List SimplePlaced → Text → Option (List SimpleColumn)
 items_named [] name = None
 items_named (placed ∷ others) name = option_or (created name placed.statement) (items_named others name)
 
 -- the columns of the first table of a name, where a table comes next
-abbrev pub items_with : List Placed → Text → List ColumnItem → Text → Option (List ColumnItem)
+abbrev pub items_with : List SimplePlaced → Text → List SimpleColumn → Text → Option (List SimpleColumn)
 items_with earlier table items name = option_or (items_named earlier name) (if same_text table name then Some items else None)
 
-abbrev pub primaries_in : List ColumnItem → ℕ
+abbrev pub primaries_in : List SimpleColumn → ℕ
 primaries_in items = count_by (λ item. is_primary item.constraint) items
 
-abbrev pub references_in : List ColumnItem → ℕ
+abbrev pub references_in : List SimpleColumn → ℕ
 references_in items = count_by (λ item. is_reference item.constraint) items
 
 -- the columns are there, and one of them is a primary key
-abbrev pub has_primary : Option (List ColumnItem) → Bool
+abbrev pub has_primary : Option (List SimpleColumn) → Bool
 has_primary None = false
 has_primary (Some items) = list_any (λ item. is_primary item.constraint) items
 
-abbrev pub constraint_kept : List Placed → Text → List ColumnItem → Text → Option ColumnConstraint → Bool
+abbrev pub constraint_kept : List SimplePlaced → Text → List SimpleColumn → Text → Option SimpleConstraint → Bool
 constraint_kept earlier table items col None = true
 constraint_kept earlier table items col (Some PrimaryKey) = is_short (primary_key_name table)
 constraint_kept earlier table items col (Some (References parent decl)) =
     is_name parent && has_primary (items_with earlier table items parent) && is_short (foreign_key_name table col)
 
-abbrev pub column_kept : List Placed → Text → List ColumnItem → ColumnItem → Bool
+abbrev pub column_kept : List SimplePlaced → Text → List SimpleColumn → SimpleColumn → Bool
 column_kept earlier table items item = is_name item.name && constraint_kept earlier table items item.name item.constraint
 
-abbrev pub statement_references : Statement → ℕ
+abbrev pub statement_references : SimpleStatement → ℕ
 statement_references (CreateTable table items) = references_in items
 statement_references (Insert table rows) = 0
 statement_references (Delete table) = 0
@@ -62,16 +62,16 @@ statement_references Commit = 0
 statement_references Rollback = 0
 
 -- the foreign keys that statements make
-abbrev pub references_before : List Placed → ℕ
+abbrev pub references_before : List SimplePlaced → ℕ
 references_before earlier = sum_by (λ placed. statement_references placed.statement) earlier
 
-abbrev pub create_kept : List Placed → Text → List ColumnItem → Bool
+abbrev pub create_kept : List SimplePlaced → Text → List SimpleColumn → Bool
 create_kept earlier table items =
     is_name table && is_none (items_named earlier table) && nat_lt (length earlier) 64 && nat_le (length items) 32
     && all_differ (map (λ item. item.name) items) && list_all (column_kept earlier table items) items
     && nat_le (primaries_in items) 1 && nat_le (references_before earlier + references_in items) 128
 
-abbrev pub definition_kept : List Placed → Statement → Bool
+abbrev pub definition_kept : List SimplePlaced → SimpleStatement → Bool
 definition_kept earlier (CreateTable table items) = create_kept earlier table items
 definition_kept earlier (Insert table rows) = false
 definition_kept earlier (Delete table) = false
@@ -79,15 +79,15 @@ definition_kept earlier Begin = false
 definition_kept earlier Commit = false
 definition_kept earlier Rollback = false
 
-abbrev pub setup_kept : List Placed → List Placed → Bool
+abbrev pub setup_kept : List SimplePlaced → List SimplePlaced → Bool
 setup_kept earlier [] = true
 setup_kept earlier (placed ∷ others) = definition_kept earlier placed.statement && setup_kept (earlier ++ placed ∷ []) others
 
-abbrev pub rows_kept : Option (List ColumnItem) → List Row → Bool
+abbrev pub rows_kept : Option (List SimpleColumn) → List Row → Bool
 rows_kept None rows = false
 rows_kept (Some items) rows = list_all (λ (row : Row). length row == length items) rows
 
-abbrev pub run_kept : List Placed → Statement → Bool
+abbrev pub run_kept : List SimplePlaced → SimpleStatement → Bool
 run_kept setup (CreateTable table items) = false
 run_kept setup (Insert table rows) = is_name table && rows_kept (items_named setup table) rows
 run_kept setup (Delete table) = is_name table && is_some (items_named setup table)
@@ -95,13 +95,13 @@ run_kept setup Begin = true
 run_kept setup Commit = true
 run_kept setup Rollback = true
 
-abbrev pub session_kept : List Placed → SessionText → Bool
+abbrev pub session_kept : List SimplePlaced → SimpleSession → Bool
 session_kept setup session = is_name session.name && list_all (λ placed. run_kept setup placed.statement) session.statements
 
-abbrev pub statements_in : Script → ℕ
+abbrev pub statements_in : SimpleScript → ℕ
 statements_in script = length script.setup + sum_by (λ session. length session.statements) script.sessions
 
-unfoldable pub script_kept : Script → Bool
+unfoldable pub script_kept : SimpleScript → Bool
 script_kept script =
     is_none script.schedule && nat_le (length script.sessions) 1 && nat_le (statements_in script) 65536
     && nat_le (sum_by rows_in_session script.sessions) 1000

@@ -9,14 +9,14 @@ use Rattle.aq_base.specs.Values.{Row}
 use Rattle.aq_base.specs.declared.value.Value.{Value}
 use Rattle.aq_base.specs.declared.value.Value.TheVariants.{Null, Bool as Truth, Int, Text}
 use Rattle.aq_base.specs.declared.catalog.Decl.{Decl}
-use Rattle.aq_base.specs.declared.script.ColumnConstraint.{ColumnConstraint}
-use Rattle.aq_base.specs.declared.script.ColumnConstraint.TheVariants.{PrimaryKey, References}
-use Rattle.aq_base.specs.declared.script.ColumnItem.{ColumnItem}
-use Rattle.aq_base.specs.declared.script.Statement.{Statement}
-use Rattle.aq_base.specs.declared.script.Statement.TheVariants.{CreateTable, Insert, Delete, Begin, Commit, Rollback}
-use Rattle.aq_base.specs.declared.script.Placed.{Placed}
-use Rattle.aq_base.specs.declared.script.SessionText.{SessionText}
-use Rattle.aq_base.specs.declared.script.Script.{Script}
+use Rattle.aq_base.specs.declared.simple.SimpleConstraint.{SimpleConstraint}
+use Rattle.aq_base.specs.declared.simple.SimpleConstraint.TheVariants.{PrimaryKey, References}
+use Rattle.aq_base.specs.declared.simple.SimpleColumn.{SimpleColumn}
+use Rattle.aq_base.specs.declared.simple.SimpleStatement.{SimpleStatement}
+use Rattle.aq_base.specs.declared.simple.SimpleStatement.TheVariants.{CreateTable, Insert, Delete, Begin, Commit, Rollback}
+use Rattle.aq_base.specs.declared.simple.SimplePlaced.{SimplePlaced}
+use Rattle.aq_base.specs.declared.simple.SimpleSession.{SimpleSession}
+use Rattle.aq_base.specs.declared.simple.SimpleScript.{SimpleScript}
 use Rattle.aq_parse.specs.declared.token.Token.{Token}
 use Rattle.aq_parse.specs.declared.token.Token.TheVariants.{Word, Integer, Symbol, Setup, Session}
 use Rattle.aq_parse.specs.declared.token.Lexed.{Lexed}
@@ -70,12 +70,12 @@ SpellsTimed true true tokens rest =
 abbrev pub SpellsTiming : Decl → List Lexed → List Lexed → Type 0
 SpellsTiming decl = SpellsTimed decl.deferrable decl.deferred
 
-abbrev pub SpellsConstraint : Option ColumnConstraint → List Lexed → List Lexed → Type 0
+abbrev pub SpellsConstraint : Option SimpleConstraint → List Lexed → List Lexed → Type 0
 SpellsConstraint None tokens rest = BeginsWith [] tokens rest
 SpellsConstraint (Some PrimaryKey) tokens rest = BeginsWith (Word (codes "primary") ∷ Word (codes "key") ∷ []) tokens rest
 SpellsConstraint (Some (References parent decl)) tokens rest = (BeginsWith (Word (codes "references") ∷ Word parent ∷ []) >> SpellsTiming decl) tokens rest
 
-abbrev pub SpellsItem : ColumnItem → List Lexed → List Lexed → Type 0
+abbrev pub SpellsItem : SimpleColumn → List Lexed → List Lexed → Type 0
 SpellsItem item = BeginsWith (Word item.name ∷ Word (codes "integer") ∷ []) >> SpellsConstraint item.constraint
 
 -- an integer literal or NULL; no other value is written
@@ -89,7 +89,7 @@ SpellsValue (Text text) tokens rest = ⊥
 abbrev pub SpellsRow : Row → List Lexed → List Lexed → Type 0
 SpellsRow row = BeginsWith (opening ∷ []) >> SpellsListed SpellsValue row >> BeginsWith (closing ∷ [])
 
-abbrev pub SpellsStatement : Statement → List Lexed → List Lexed → Type 0
+abbrev pub SpellsStatement : SimpleStatement → List Lexed → List Lexed → Type 0
 SpellsStatement (CreateTable table items) tokens rest =
     (BeginsWith (Word (codes "create") ∷ Word (codes "table") ∷ Word table ∷ opening ∷ []) >> SpellsListed SpellsItem items >> BeginsWith (closing ∷ [])) tokens rest
 SpellsStatement (Insert table rows) tokens rest =
@@ -104,22 +104,22 @@ first_line [] = None
 first_line (lexed ∷ others) = Some lexed.line
 
 -- the tokens are a statement with its `;`, on the line of the first of them, and then the rest
-pub record SpellsPlaced (placed : Placed) (tokens rest : List Lexed) : Type 0 where
+pub record SpellsPlaced (placed : SimplePlaced) (tokens rest : List Lexed) : Type 0 where
   pub spelled : (SpellsStatement placed.statement >> BeginsWith (semicolon ∷ [])) tokens rest
   pub line : first_line tokens ≡ Some placed.line
 
 -- the setup section, which may be left out where it has no statement
-abbrev pub SpellsSetup : List Placed → List Lexed → List Lexed → Type 0
+abbrev pub SpellsSetup : List SimplePlaced → List Lexed → List Lexed → Type 0
 SpellsSetup setup tokens rest = ((setup ≡ []) × (tokens ≡ rest)) ⊎ (BeginsWith (Setup ∷ []) >> SpellsEach SpellsPlaced setup) tokens rest
 
 -- at most one session, which ends with the script
-abbrev pub SpellsSessions : List SessionText → List Lexed → Type 0
+abbrev pub SpellsSessions : List SimpleSession → List Lexed → Type 0
 SpellsSessions [] tokens = tokens ≡ []
 SpellsSessions (session ∷ []) tokens = (BeginsWith (Session ∷ Word session.name ∷ []) >> SpellsEach SpellsPlaced session.statements) tokens []
 SpellsSessions (session ∷ second ∷ others) tokens = ⊥
 
 -- all of the tokens are the script, which has no schedule section
-pub record Spells (tokens : List Lexed) (script : Script) : Type 0 where
+pub record Spells (tokens : List Lexed) (script : SimpleScript) : Type 0 where
   pub sessions : List Lexed
   pub setup_part : SpellsSetup script.setup tokens sessions
   pub sessions_part : SpellsSessions script.sessions sessions

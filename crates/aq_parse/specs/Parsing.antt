@@ -6,14 +6,14 @@ use Rattle.aq_base.specs.declared.value.Value.{Value}
 use Rattle.aq_base.specs.declared.value.Value.TheVariants.{Null, Int}
 use Rattle.aq_base.specs.declared.catalog.Decl.{Decl}
 use Rattle.aq_base.specs.declared.script.Kind.TheVariants as kinds
-use Rattle.aq_base.specs.declared.script.ColumnConstraint.{ColumnConstraint}
-use Rattle.aq_base.specs.declared.script.ColumnConstraint.TheVariants.{PrimaryKey, References}
-use Rattle.aq_base.specs.declared.script.ColumnItem.{ColumnItem}
-use Rattle.aq_base.specs.declared.script.Statement.{Statement}
-use Rattle.aq_base.specs.declared.script.Statement.TheVariants.{CreateTable, Insert, Delete, Begin, Commit, Rollback}
-use Rattle.aq_base.specs.declared.script.Placed.{Placed}
-use Rattle.aq_base.specs.declared.script.SessionText.{SessionText}
-use Rattle.aq_base.specs.declared.script.Script.{Script}
+use Rattle.aq_base.specs.declared.simple.SimpleConstraint.{SimpleConstraint}
+use Rattle.aq_base.specs.declared.simple.SimpleConstraint.TheVariants.{PrimaryKey, References}
+use Rattle.aq_base.specs.declared.simple.SimpleColumn.{SimpleColumn}
+use Rattle.aq_base.specs.declared.simple.SimpleStatement.{SimpleStatement}
+use Rattle.aq_base.specs.declared.simple.SimpleStatement.TheVariants.{CreateTable, Insert, Delete, Begin, Commit, Rollback}
+use Rattle.aq_base.specs.declared.simple.SimplePlaced.{SimplePlaced}
+use Rattle.aq_base.specs.declared.simple.SimpleSession.{SimpleSession}
+use Rattle.aq_base.specs.declared.simple.SimpleScript.{SimpleScript}
 use Rattle.aq_parse.specs.declared.token.Token.{Token}
 use Rattle.aq_parse.specs.declared.token.Token.TheVariants.{Word, Integer, Symbol, Setup, Session}
 use Rattle.aq_parse.specs.declared.token.Lexed.{Lexed}
@@ -112,7 +112,7 @@ timing_at tokens =
     then (behind_one (is_keyword (codes "deferrable")) tokens >>= λ rest. deferred_at true rest)
     else deferred_at false tokens
 
-unfoldable pub constraint_at : List Lexed → Option (Option ColumnConstraint × List Lexed)
+unfoldable pub constraint_at : List Lexed → Option (Option SimpleConstraint × List Lexed)
 constraint_at tokens =
     if begins_with (is_keyword (codes "primary")) tokens
     then (behind_one (is_keyword (codes "primary")) tokens >>= λ key.
@@ -122,7 +122,7 @@ constraint_at tokens =
     name_at table >>= λ parent. timing_at parent.1 >>= λ timing. Some (Some (References parent.0 timing.0), timing.1))
     else Some (None, tokens))
 
-unfoldable pub item_at : List Lexed → Option (ColumnItem × List Lexed)
+unfoldable pub item_at : List Lexed → Option (SimpleColumn × List Lexed)
 item_at tokens = do
   name ← name_at tokens
   kind ← behind_one (is_keyword (codes "integer")) name.1
@@ -136,7 +136,7 @@ row_at tokens = do
   rest ← behind_one (is_mark 41) values.1
   Some (values.0, rest)
 
-unfoldable pub create_at : List Lexed → Option (Statement × List Lexed)
+unfoldable pub create_at : List Lexed → Option (SimpleStatement × List Lexed)
 create_at tokens = do
   word ← behind_one (is_keyword (codes "create")) tokens
   named ← behind_one (is_keyword (codes "table")) word
@@ -146,7 +146,7 @@ create_at tokens = do
   rest ← behind_one (is_mark 41) items.1
   Some (CreateTable table.0 items.0, rest)
 
-unfoldable pub insert_at : List Lexed → Option (Statement × List Lexed)
+unfoldable pub insert_at : List Lexed → Option (SimpleStatement × List Lexed)
 insert_at tokens = do
   word ← behind_one (is_keyword (codes "insert")) tokens
   named ← behind_one (is_keyword (codes "into")) word
@@ -155,7 +155,7 @@ insert_at tokens = do
   rows ← listed_at row_at values
   Some (Insert table.0 rows.0, rows.1)
 
-unfoldable pub delete_at : List Lexed → Option (Statement × List Lexed)
+unfoldable pub delete_at : List Lexed → Option (SimpleStatement × List Lexed)
 delete_at tokens = do
   word ← behind_one (is_keyword (codes "delete")) tokens
   named ← behind_one (is_keyword (codes "from")) word
@@ -163,24 +163,24 @@ delete_at tokens = do
   Some (Delete table.0, table.1)
 
 -- a statement of one word
-abbrev pub one_word_at : Text → Statement → List Lexed → Option (Statement × List Lexed)
+abbrev pub one_word_at : Text → SimpleStatement → List Lexed → Option (SimpleStatement × List Lexed)
 one_word_at word statement tokens = behind_one (is_keyword word) tokens >>= λ rest. Some (statement, rest)
 
 -- a statement that begins or ends a transaction block
-unfoldable pub block_at : List Lexed → Option (Statement × List Lexed)
+unfoldable pub block_at : List Lexed → Option (SimpleStatement × List Lexed)
 block_at tokens =
     if begins_with (is_keyword (codes "begin")) tokens then one_word_at (codes "begin") Begin tokens
     else (if begins_with (is_keyword (codes "commit")) tokens then one_word_at (codes "commit") Commit tokens
     else one_word_at (codes "rollback") Rollback tokens)
 
-unfoldable pub statement_at : List Lexed → Option (Statement × List Lexed)
+unfoldable pub statement_at : List Lexed → Option (SimpleStatement × List Lexed)
 statement_at tokens =
     if begins_with (is_keyword (codes "create")) tokens then create_at tokens
     else (if begins_with (is_keyword (codes "insert")) tokens then insert_at tokens
     else (if begins_with (is_keyword (codes "delete")) tokens then delete_at tokens else block_at tokens))
 
 -- a statement with its `;`
-unfoldable pub placed_at : List Lexed → Option (Placed × List Lexed)
+unfoldable pub placed_at : List Lexed → Option (SimplePlaced × List Lexed)
 placed_at tokens = do
   line ← first_line tokens
   statement ← statement_at tokens
@@ -192,10 +192,10 @@ abbrev pub goes_on : List Lexed → Bool
 goes_on [] = false
 goes_on (lexed ∷ rest) = not (is_session lexed.token)
 
-abbrev pub statements_at : List Lexed → Option (List Placed × List Lexed)
+abbrev pub statements_at : List Lexed → Option (List SimplePlaced × List Lexed)
 statements_at tokens = repeated_at goes_on placed_at (length tokens) tokens
 
-unfoldable pub setup_at : List Lexed → Option (List Placed × List Lexed)
+unfoldable pub setup_at : List Lexed → Option (List SimplePlaced × List Lexed)
 setup_at tokens =
     if begins_with is_setup tokens then (behind_one is_setup tokens >>= λ rest. statements_at rest) else Some ([], tokens)
 
@@ -204,18 +204,18 @@ abbrev pub ended : {A : Type 0} → A → List Lexed → Option A
 ended x [] = Some x
 ended x (lexed ∷ rest) = None
 
-unfoldable pub session_at : List Lexed → Option SessionText
+unfoldable pub session_at : List Lexed → Option SimpleSession
 session_at tokens = do
   named ← behind_one is_session tokens
   name ← name_at named
   statements ← statements_at name.1
   ended (record { name = name.0; statements = statements.0 }) statements.1
 
-abbrev pub sessions_at : List Lexed → Option (List SessionText)
+abbrev pub sessions_at : List Lexed → Option (List SimpleSession)
 sessions_at [] = Some []
 sessions_at (lexed ∷ rest) = session_at (lexed ∷ rest) >>= λ session. Some (session ∷ [])
 
-unfoldable pub script_at : List Lexed → Option Script
+unfoldable pub script_at : List Lexed → Option SimpleScript
 script_at tokens = do
   setup ← setup_at tokens
   sessions ← sessions_at setup.1

@@ -2,7 +2,7 @@
 use Rattle.std.specs.Prelude.{◌≡◌, ℕ, true, List, None, codes}
 use Rattle.aq_base.specs.Scripts.{fits_first_language}
 use Rattle.aq_base.specs.declared.fault.SqlFault.{SqlFault}
-use Rattle.aq_base.specs.declared.script.Script.{Script}
+use Rattle.aq_base.specs.declared.simple.SimpleScript.{SimpleScript}
 use Rattle.aq_parse.specs.declared.token.Lexed.{Lexed}
 use Rattle.aq_parse.specs.declared.fault.ScriptFault.{ScriptFault}
 use Rattle.aq_parse.specs.declared.fault.ScriptFault.TheVariants.{NoMemory, Refused}
@@ -10,7 +10,7 @@ use Rattle.aq_parse.specs.Tokens.{Lexes, beginning}
 use Rattle.aq_parse.specs.Grammar.{Spells}
 
 -- the bytes are tokens, the tokens are the script by the grammar, and its names and limits are kept
-pub record Reads (bytes : List ℕ) (script : Script) : Type 0 where
+pub record Reads (bytes : List ℕ) (script : SimpleScript) : Type 0 where
   pub tokens : List Lexed
   pub lexed : Lexes beginning bytes tokens
   pub spelled : Spells tokens script
@@ -18,7 +18,7 @@ pub record Reads (bytes : List ℕ) (script : Script) : Type 0 where
 
 -- the bytes are no script
 abbrev pub HasNoReading : List ℕ → Type 0
-HasNoReading bytes = (script : Script) → Reads bytes script → ⊥
+HasNoReading bytes = (script : SimpleScript) → Reads bytes script → ⊥
 
 -- the fault of a script that is not of the language that is built
 abbrev pub not_built : SqlFault

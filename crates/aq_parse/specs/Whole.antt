@@ -1,13 +1,13 @@
 -- From bytes to a script, in three steps.
 use Rattle.std.specs.Prelude.{ℕ, List, Option, Some, None, if◌then◌else◌}
 use Rattle.aq_base.specs.Scripts.{fits_first_language}
-use Rattle.aq_base.specs.declared.script.Script.{Script}
+use Rattle.aq_base.specs.declared.simple.SimpleScript.{SimpleScript}
 use Rattle.aq_parse.specs.Steps.{◌>>=◌}
 use Rattle.aq_parse.specs.Tokens.{beginning}
 use Rattle.aq_parse.specs.Lexing.{tokens_from}
 use Rattle.aq_parse.specs.Parsing.{script_at}
 
-unfoldable pub script_in : List ℕ → Option Script
+unfoldable pub script_in : List ℕ → Option SimpleScript
 script_in bytes = do
   tokens ← tokens_from 0 beginning bytes
   script ← script_at tokens

@@ -10,16 +10,17 @@ ghost use Rattle.aq_parse.specs.Conditions.{items_named, primaries_in, reference
 
 use crate::names::{is_name, same_text};
 use aq_base::{
-    ColumnConstraint, ColumnItem, List, Placed, Row, Script, SessionText, Statement, TextVal,
+    List, Row, SimpleColumn, SimpleConstraint, SimplePlaced, SimpleScript, SimpleSession,
+    SimpleStatement, TextVal,
 };
 
 /// The columns of the first table of a name that statements create.
-fn items_named<'a>(earlier: &'a [Placed], name: &TextVal) -> Option<&'a List<ColumnItem>>
+fn items_named<'a>(earlier: &'a [SimplePlaced], name: &TextVal) -> Option<&'a List<SimpleColumn>>
     ensures { option_copied result ≡ items_named earlier.now name.now }
 {
     let mut rest = earlier;
     'statements: while let Some((placed, others)) = rest.split_first() {
-        if let Statement::CreateTable { table, items } = &placed.statement {
+        if let SimpleStatement::CreateTable { table, items } = &placed.statement {
             if same_text(table.bytes(), name.bytes()) {
                 return Some(items);
             }
@@ -29,31 +30,31 @@ fn items_named<'a>(earlier: &'a [Placed], name: &TextVal) -> Option<&'a List<Col
     None
 }
 
-fn is_primary(item: &ColumnItem) -> bool
+fn is_primary(item: &SimpleColumn) -> bool
     ensures { result ≡ is_primary item.now.constraint }
 {
-    matches!(&item.constraint, Some(ColumnConstraint::PrimaryKey))
+    matches!(&item.constraint, Some(SimpleConstraint::PrimaryKey))
 }
 
-fn is_reference(item: &ColumnItem) -> bool
+fn is_reference(item: &SimpleColumn) -> bool
     ensures { result ≡ is_reference item.now.constraint }
 {
-    matches!(&item.constraint, Some(ColumnConstraint::References { .. }))
+    matches!(&item.constraint, Some(SimpleConstraint::References { .. }))
 }
 
-fn primaries_in(items: &[ColumnItem]) -> usize
+fn primaries_in(items: &[SimpleColumn]) -> usize
     ensures { result ≡ primaries_in items.now }
 {
     items.iter().filter(|item| is_primary(item)).count()
 }
 
-fn references_in(items: &[ColumnItem]) -> usize
+fn references_in(items: &[SimpleColumn]) -> usize
     ensures { result ≡ references_in items.now }
 {
     items.iter().filter(|item| is_reference(item)).count()
 }
 
-fn any_primary(items: &[ColumnItem]) -> bool
+fn any_primary(items: &[SimpleColumn]) -> bool
     ensures { result ≡ list_any (λ item. is_primary item.constraint) items.now }
 {
     items.iter().any(|item| is_primary(item))
@@ -61,11 +62,11 @@ fn any_primary(items: &[ColumnItem]) -> bool
 
 /// The columns of the first table of a name, where a table comes next.
 fn items_with<'a>(
-    earlier: &'a [Placed],
+    earlier: &'a [SimplePlaced],
     table: &TextVal,
-    items: &'a List<ColumnItem>,
+    items: &'a List<SimpleColumn>,
     name: &TextVal,
-) -> Option<&'a List<ColumnItem>>
+) -> Option<&'a List<SimpleColumn>>
     ensures { option_copied result ≡ items_with earlier.now table.now items.now name.now }
 {
     match items_named(earlier, name) {
@@ -77,9 +78,9 @@ fn items_with<'a>(
 
 /// Whether the first table of a name has a primary key, where a table comes next.
 fn has_primary(
-    earlier: &[Placed],
+    earlier: &[SimplePlaced],
     table: &TextVal,
-    items: &List<ColumnItem>,
+    items: &List<SimpleColumn>,
     name: &TextVal,
 ) -> bool
     ensures { result ≡ has_primary (items_with earlier.now table.now items.now name.now) }
@@ -104,18 +105,18 @@ fn foreign_key_is_short(table: &TextVal, col: &TextVal) -> bool
 }
 
 fn constraint_kept(
-    earlier: &[Placed],
+    earlier: &[SimplePlaced],
     table: &TextVal,
-    items: &List<ColumnItem>,
+    items: &List<SimpleColumn>,
     col: &TextVal,
-    constraint: &Option<ColumnConstraint>,
+    constraint: &Option<SimpleConstraint>,
 ) -> bool
     ensures { result ≡ constraint_kept earlier.now table.now items.now col.now constraint.now }
 {
     match constraint {
         None => true,
-        Some(ColumnConstraint::PrimaryKey) => primary_key_is_short(table),
-        Some(ColumnConstraint::References { table: parent, .. }) => {
+        Some(SimpleConstraint::PrimaryKey) => primary_key_is_short(table),
+        Some(SimpleConstraint::References { table: parent, .. }) => {
             is_name(parent)
                 && has_primary(earlier, table, items, parent)
                 && foreign_key_is_short(table, col)
@@ -124,17 +125,17 @@ fn constraint_kept(
 }
 
 fn column_kept(
-    earlier: &[Placed],
+    earlier: &[SimplePlaced],
     table: &TextVal,
-    items: &List<ColumnItem>,
-    item: &ColumnItem,
+    items: &List<SimpleColumn>,
+    item: &SimpleColumn,
 ) -> bool
     ensures { result ≡ column_kept earlier.now table.now items.now item.now }
 {
     is_name(&item.name) && constraint_kept(earlier, table, items, &item.name, &item.constraint)
 }
 
-fn columns_kept(earlier: &[Placed], table: &TextVal, items: &List<ColumnItem>) -> bool
+fn columns_kept(earlier: &[SimplePlaced], table: &TextVal, items: &List<SimpleColumn>) -> bool
     ensures { result ≡ list_all (column_kept earlier.now table.now items.now) items.now }
 {
     items
@@ -143,7 +144,7 @@ fn columns_kept(earlier: &[Placed], table: &TextVal, items: &List<ColumnItem>) -
         .all(|item| column_kept(earlier, table, items, item))
 }
 
-fn any_named(items: &[ColumnItem], name: &TextVal) -> bool
+fn any_named(items: &[SimpleColumn], name: &TextVal) -> bool
     ensures { result ≡ list_any (λ item. same_text name.now item.name) items.now }
 {
     items
@@ -152,13 +153,13 @@ fn any_named(items: &[ColumnItem], name: &TextVal) -> bool
 }
 
 #[tactic(auto, using(crate::proofs::Kept::any_mapped))]
-fn is_apart_from(items: &[ColumnItem], name: &TextVal) -> bool
+fn is_apart_from(items: &[SimpleColumn], name: &TextVal) -> bool
     ensures { result ≡ is_apart_from (map (λ item. item.name) items.now) name.now }
 {
     !any_named(items, name)
 }
 
-fn names_differ(items: &[ColumnItem]) -> bool
+fn names_differ(items: &[SimpleColumn]) -> bool
     ensures { result ≡ all_differ (map (λ item. item.name) items.now) }
 {
     let mut rest = items;
@@ -171,17 +172,17 @@ fn names_differ(items: &[ColumnItem]) -> bool
     true
 }
 
-fn statement_references(statement: &Statement) -> usize
+fn statement_references(statement: &SimpleStatement) -> usize
     ensures { result ≡ statement_references statement.now }
 {
     match statement {
-        Statement::CreateTable { items, .. } => references_in(items.as_slice()),
+        SimpleStatement::CreateTable { items, .. } => references_in(items.as_slice()),
         _ => 0,
     }
 }
 
 /// The number of foreign keys that statements make, as far as a number can be.
-fn references_before(earlier: &[Placed]) -> usize
+fn references_before(earlier: &[SimplePlaced]) -> usize
     ensures { result ≡ min (references_before earlier.now) (2 ^ 64 - 1) }
 {
     let mut total: usize = 0;
@@ -191,7 +192,7 @@ fn references_before(earlier: &[Placed]) -> usize
     total
 }
 
-fn create_kept(earlier: &[Placed], table: &TextVal, items: &List<ColumnItem>) -> bool
+fn create_kept(earlier: &[SimplePlaced], table: &TextVal, items: &List<SimpleColumn>) -> bool
     ensures { result ≡ create_kept earlier.now table.now items.now }
 {
     is_name(table)
@@ -204,16 +205,16 @@ fn create_kept(earlier: &[Placed], table: &TextVal, items: &List<ColumnItem>) ->
         && references_before(earlier).saturating_add(references_in(items.as_slice())) <= 128
 }
 
-fn definition_kept(earlier: &[Placed], statement: &Statement) -> bool
+fn definition_kept(earlier: &[SimplePlaced], statement: &SimpleStatement) -> bool
     ensures { result ≡ definition_kept earlier.now statement.now }
 {
     match statement {
-        Statement::CreateTable { table, items } => create_kept(earlier, table, items),
+        SimpleStatement::CreateTable { table, items } => create_kept(earlier, table, items),
         _ => false,
     }
 }
 
-fn setup_kept(setup: &[Placed]) -> bool
+fn setup_kept(setup: &[SimplePlaced]) -> bool
     ensures { result ≡ setup_kept [] setup.now }
 {
     'setup: for (at, placed) in setup.iter().enumerate() {
@@ -224,30 +225,30 @@ fn setup_kept(setup: &[Placed]) -> bool
     true
 }
 
-fn rows_kept(items: &List<ColumnItem>, rows: &[Row]) -> bool
+fn rows_kept(items: &List<SimpleColumn>, rows: &[Row]) -> bool
     ensures { result ≡ rows_kept (Some items.now) rows.now }
 {
     rows.iter().all(|row| row.len() == items.len())
 }
 
-fn run_kept(setup: &[Placed], statement: &Statement) -> bool
+fn run_kept(setup: &[SimplePlaced], statement: &SimpleStatement) -> bool
     ensures { result ≡ run_kept setup.now statement.now }
 {
     match statement {
-        Statement::CreateTable { .. } => false,
-        Statement::Insert { table, rows } => {
+        SimpleStatement::CreateTable { .. } => false,
+        SimpleStatement::Insert { table, rows } => {
             is_name(table)
                 && match items_named(setup, table) {
                     None => false,
                     Some(items) => rows_kept(items, rows.as_slice()),
                 }
         }
-        Statement::Delete { table } => is_name(table) && items_named(setup, table).is_some(),
-        Statement::Begin | Statement::Commit | Statement::Rollback => true,
+        SimpleStatement::Delete { table } => is_name(table) && items_named(setup, table).is_some(),
+        SimpleStatement::Begin | SimpleStatement::Commit | SimpleStatement::Rollback => true,
     }
 }
 
-fn statements_kept(setup: &[Placed], statements: &[Placed]) -> bool
+fn statements_kept(setup: &[SimplePlaced], statements: &[SimplePlaced]) -> bool
     ensures { result ≡ list_all (λ placed. run_kept setup.now placed.statement) statements.now }
 {
     statements
@@ -255,22 +256,22 @@ fn statements_kept(setup: &[Placed], statements: &[Placed]) -> bool
         .all(|placed| run_kept(setup, &placed.statement))
 }
 
-fn session_kept(setup: &[Placed], session: &SessionText) -> bool
+fn session_kept(setup: &[SimplePlaced], session: &SimpleSession) -> bool
     ensures { result ≡ session_kept setup.now session.now }
 {
     is_name(&session.name) && statements_kept(setup, session.statements.as_slice())
 }
 
-fn rows_in(statement: &Statement) -> usize
+fn rows_in(statement: &SimpleStatement) -> usize
     ensures { result ≡ rows_in statement.now }
 {
     match statement {
-        Statement::Insert { rows, .. } => rows.len(),
+        SimpleStatement::Insert { rows, .. } => rows.len(),
         _ => 0,
     }
 }
 
-fn rows_in_session(session: &SessionText) -> usize
+fn rows_in_session(session: &SimpleSession) -> usize
     ensures { result ≡ min (rows_in_session session.now) (2 ^ 64 - 1) }
 {
     let mut total: usize = 0;
@@ -280,7 +281,7 @@ fn rows_in_session(session: &SessionText) -> usize
     total
 }
 
-fn rows_in_sessions(sessions: &[SessionText]) -> usize
+fn rows_in_sessions(sessions: &[SimpleSession]) -> usize
     ensures { result ≡ min (sum_by rows_in_session sessions.now) (2 ^ 64 - 1) }
 {
     let mut total: usize = 0;
@@ -290,7 +291,7 @@ fn rows_in_sessions(sessions: &[SessionText]) -> usize
     total
 }
 
-fn statements_in(script: &Script) -> usize
+fn statements_in(script: &SimpleScript) -> usize
     ensures { result ≡ min (statements_in script.now) (2 ^ 64 - 1) }
 {
     let mut total = script.setup.len();
@@ -300,14 +301,14 @@ fn statements_in(script: &Script) -> usize
     total
 }
 
-fn sessions_kept(setup: &[Placed], sessions: &[SessionText]) -> bool
+fn sessions_kept(setup: &[SimplePlaced], sessions: &[SimpleSession]) -> bool
     ensures { result ≡ list_all (session_kept setup.now) sessions.now }
 {
     sessions.iter().all(|session| session_kept(setup, session))
 }
 
 #[tactic(auto, unfolding(crate::specs::Conditions::script_kept))]
-fn script_kept(script: &Script) -> bool
+fn script_kept(script: &SimpleScript) -> bool
     ensures { result ≡ script_kept script.now }
 {
     script.schedule.is_none()
@@ -320,7 +321,7 @@ fn script_kept(script: &Script) -> bool
 
 /// Whether a script keeps the names and limits of the language.
 #[tactic(auto, using(crate::proofs::Stands::script_kept_is))]
-pub fn fits_first_language(script: &Script) -> bool
+pub fn fits_first_language(script: &SimpleScript) -> bool
     ensures { result ≡ fits_first_language script.now }
 {
     script_kept(script)

@@ -8,8 +8,8 @@ ghost use Rattle.aq_parse.specs.Parsing.{is_keyword, is_mark, is_setup, is_sessi
 use crate::fault::ReadFault;
 use crate::token::{Lexed, Token};
 use aq_base::{
-    ColumnConstraint, ColumnItem, Copies, Decl, Kind, List, Placed, Row, Script, SessionText,
-    Statement, TextVal, Value,
+    Copies, Decl, Kind, List, Row, SimpleColumn, SimpleConstraint, SimplePlaced, SimpleScript,
+    SimpleSession, SimpleStatement, TextVal, Value,
 };
 use std::alloc::Global;
 
@@ -178,25 +178,25 @@ fn timing(tokens: &[Lexed]) -> Read<'_, Decl>
 
 /// The constraint of a column, where there is one.
 #[tactic(auto, unfolding(crate::specs::Parsing::constraint_at))]
-fn constraint(tokens: &[Lexed]) -> Read<'_, Option<ColumnConstraint>>
+fn constraint(tokens: &[Lexed]) -> Read<'_, Option<SimpleConstraint>>
     ensures { Gives (λ found. (found.0, found.1.now)) result (constraint_at tokens.now) }
 {
     if begins_with_keyword(tokens, b"primary") {
         let rest = behind_keyword(tokens, b"primary")?;
         let rest = behind_keyword(rest, b"key")?;
-        return Ok((Some(ColumnConstraint::PrimaryKey), rest));
+        return Ok((Some(SimpleConstraint::PrimaryKey), rest));
     }
     if begins_with_keyword(tokens, b"references") {
         let rest = behind_keyword(tokens, b"references")?;
         let (table, rest) = name(rest)?;
         let (decl, rest) = timing(rest)?;
-        return Ok((Some(ColumnConstraint::References { table, decl }), rest));
+        return Ok((Some(SimpleConstraint::References { table, decl }), rest));
     }
     Ok((None, tokens))
 }
 
 #[tactic(auto, unfolding(crate::specs::Parsing::item_at))]
-fn item(tokens: &[Lexed]) -> Read<'_, ColumnItem>
+fn item(tokens: &[Lexed]) -> Read<'_, SimpleColumn>
     ensures { Gives (λ found. (found.0, found.1.now)) result (item_at tokens.now) }
 {
     let (name, rest) = name(tokens)?;
@@ -204,7 +204,7 @@ fn item(tokens: &[Lexed]) -> Read<'_, ColumnItem>
     let (constraint, rest) = constraint(rest)?;
     let kind = Kind::Integer;
     Ok((
-        ColumnItem {
+        SimpleColumn {
             name,
             kind,
             constraint,
@@ -214,7 +214,7 @@ fn item(tokens: &[Lexed]) -> Read<'_, ColumnItem>
 }
 
 /// Columns with commas between them.
-fn items(alloc: Global, tokens: &[Lexed]) -> Read<'_, List<ColumnItem>>
+fn items(alloc: Global, tokens: &[Lexed]) -> Read<'_, List<SimpleColumn>>
     ensures { Gives (λ found. (found.0, found.1.now)) result (listed_at item_at tokens.now) }
 {
     let mut items = List::new(alloc);
@@ -230,7 +230,7 @@ fn items(alloc: Global, tokens: &[Lexed]) -> Read<'_, List<ColumnItem>>
 }
 
 #[tactic(auto, unfolding(crate::specs::Parsing::create_at))]
-fn create_table(alloc: Global, tokens: &[Lexed]) -> Read<'_, Statement>
+fn create_table(alloc: Global, tokens: &[Lexed]) -> Read<'_, SimpleStatement>
     ensures { Gives (λ found. (found.0, found.1.now)) result (create_at tokens.now) }
 {
     let rest = behind_keyword(tokens, b"create")?;
@@ -239,11 +239,11 @@ fn create_table(alloc: Global, tokens: &[Lexed]) -> Read<'_, Statement>
     let rest = behind_mark(rest, b'(')?;
     let (items, rest) = items(alloc, rest)?;
     let rest = behind_mark(rest, b')')?;
-    Ok((Statement::CreateTable { table, items }, rest))
+    Ok((SimpleStatement::CreateTable { table, items }, rest))
 }
 
 #[tactic(auto, unfolding(crate::specs::Parsing::insert_at))]
-fn insert(alloc: Global, tokens: &[Lexed]) -> Read<'_, Statement>
+fn insert(alloc: Global, tokens: &[Lexed]) -> Read<'_, SimpleStatement>
     ensures { Gives (λ found. (found.0, found.1.now)) result (insert_at tokens.now) }
 {
     let rest = behind_keyword(tokens, b"insert")?;
@@ -251,38 +251,38 @@ fn insert(alloc: Global, tokens: &[Lexed]) -> Read<'_, Statement>
     let (table, rest) = name(rest)?;
     let rest = behind_keyword(rest, b"values")?;
     let (rows, rest) = rows(alloc, rest)?;
-    Ok((Statement::Insert { table, rows }, rest))
+    Ok((SimpleStatement::Insert { table, rows }, rest))
 }
 
 #[tactic(auto, unfolding(crate::specs::Parsing::delete_at))]
-fn delete(tokens: &[Lexed]) -> Read<'_, Statement>
+fn delete(tokens: &[Lexed]) -> Read<'_, SimpleStatement>
     ensures { Gives (λ found. (found.0, found.1.now)) result (delete_at tokens.now) }
 {
     let rest = behind_keyword(tokens, b"delete")?;
     let rest = behind_keyword(rest, b"from")?;
     let (table, rest) = name(rest)?;
-    Ok((Statement::Delete { table }, rest))
+    Ok((SimpleStatement::Delete { table }, rest))
 }
 
 /// A statement that begins or ends a transaction block.
 #[tactic(auto, unfolding(crate::specs::Parsing::block_at))]
-fn block(tokens: &[Lexed]) -> Read<'_, Statement>
+fn block(tokens: &[Lexed]) -> Read<'_, SimpleStatement>
     ensures { Gives (λ found. (found.0, found.1.now)) result (block_at tokens.now) }
 {
     if begins_with_keyword(tokens, b"begin") {
         let rest = behind_keyword(tokens, b"begin")?;
-        return Ok((Statement::Begin, rest));
+        return Ok((SimpleStatement::Begin, rest));
     }
     if begins_with_keyword(tokens, b"commit") {
         let rest = behind_keyword(tokens, b"commit")?;
-        return Ok((Statement::Commit, rest));
+        return Ok((SimpleStatement::Commit, rest));
     }
     let rest = behind_keyword(tokens, b"rollback")?;
-    Ok((Statement::Rollback, rest))
+    Ok((SimpleStatement::Rollback, rest))
 }
 
 #[tactic(auto, unfolding(crate::specs::Parsing::statement_at))]
-fn statement(alloc: Global, tokens: &[Lexed]) -> Read<'_, Statement>
+fn statement(alloc: Global, tokens: &[Lexed]) -> Read<'_, SimpleStatement>
     ensures { Gives (λ found. (found.0, found.1.now)) result (statement_at tokens.now) }
 {
     if begins_with_keyword(tokens, b"create") {
@@ -307,13 +307,13 @@ fn first_line(tokens: &[Lexed]) -> Result<u64, ReadFault>
 
 /// A statement with its `;`.
 #[tactic(auto, unfolding(crate::specs::Parsing::placed_at))]
-fn placed(alloc: Global, tokens: &[Lexed]) -> Read<'_, Placed>
+fn placed(alloc: Global, tokens: &[Lexed]) -> Read<'_, SimplePlaced>
     ensures { Gives (λ found. (found.0, found.1.now)) result (placed_at tokens.now) }
 {
     let line = first_line(tokens)?;
     let (statement, rest) = statement(alloc, tokens)?;
     let rest = behind_mark(rest, b';')?;
-    Ok((Placed { line, statement }, rest))
+    Ok((SimplePlaced { line, statement }, rest))
 }
 
 /// Whether a statement stands there: neither the end nor a session.
@@ -327,7 +327,7 @@ fn goes_on(tokens: &[Lexed]) -> bool
 }
 
 /// Statements up to the end or to a session.
-fn statements(alloc: Global, tokens: &[Lexed]) -> Read<'_, List<Placed>>
+fn statements(alloc: Global, tokens: &[Lexed]) -> Read<'_, List<SimplePlaced>>
     ensures { Gives (λ found. (found.0, found.1.now)) result (statements_at tokens.now) }
 {
     let mut statements = List::new(alloc);
@@ -342,7 +342,7 @@ fn statements(alloc: Global, tokens: &[Lexed]) -> Read<'_, List<Placed>>
 
 /// The statements of the setup section, where there is one.
 #[tactic(auto, unfolding(crate::specs::Parsing::setup_at))]
-fn setup(alloc: Global, tokens: &[Lexed]) -> Read<'_, List<Placed>>
+fn setup(alloc: Global, tokens: &[Lexed]) -> Read<'_, List<SimplePlaced>>
     ensures { Gives (λ found. (found.0, found.1.now)) result (setup_at tokens.now) }
 {
     match tokens {
@@ -374,7 +374,7 @@ fn behind_session(tokens: &[Lexed]) -> Result<&[Lexed], ReadFault>
 
 /// A session that ends with the script.
 #[tactic(auto, unfolding(crate::specs::Parsing::session_at))]
-fn session(alloc: Global, tokens: &[Lexed]) -> Result<SessionText, ReadFault>
+fn session(alloc: Global, tokens: &[Lexed]) -> Result<SimpleSession, ReadFault>
     ensures { Gives (λ session. session) result (session_at tokens.now) }
 {
     let rest = behind_session(tokens)?;
@@ -383,11 +383,11 @@ fn session(alloc: Global, tokens: &[Lexed]) -> Result<SessionText, ReadFault>
     if !rest.is_empty() {
         return Err(ReadFault::NotBuilt);
     }
-    Ok(SessionText { name, statements })
+    Ok(SimpleSession { name, statements })
 }
 
 /// The session of a script, where there is one.
-fn sessions(alloc: Global, tokens: &[Lexed]) -> Result<List<SessionText>, ReadFault>
+fn sessions(alloc: Global, tokens: &[Lexed]) -> Result<List<SimpleSession>, ReadFault>
     ensures { Gives (λ sessions. sessions) result (sessions_at tokens.now) }
 {
     let mut sessions = List::new(alloc);
@@ -399,12 +399,12 @@ fn sessions(alloc: Global, tokens: &[Lexed]) -> Result<List<SessionText>, ReadFa
 
 /// The tree of a script, by the grammar alone.
 #[tactic(auto, unfolding(crate::specs::Parsing::script_at))]
-pub fn script_of(alloc: Global, tokens: &[Lexed]) -> Result<Script, ReadFault>
+pub fn script_of(alloc: Global, tokens: &[Lexed]) -> Result<SimpleScript, ReadFault>
     ensures { Gives (λ script. script) result (script_at tokens.now) }
 {
     let (setup, rest) = setup(alloc, tokens)?;
     let sessions = sessions(alloc, rest)?;
-    Ok(Script {
+    Ok(SimpleScript {
         setup,
         sessions,
         schedule: None,

@@ -1,7 +1,7 @@
 //! Reading a script from its bytes.
 
 ghost use Rattle.std.specs.Prelude.{◌≡◌, ℕ, List, IfOk, IfErr};
-ghost use Rattle.aq_base.specs.declared.script.Script.{Script};
+ghost use Rattle.aq_base.specs.declared.simple.SimpleScript.{SimpleScript};
 ghost use Rattle.aq_parse.specs.Steps.{Gives};
 ghost use Rattle.aq_parse.specs.Reading.{Reads, HasNoReading, IfRefused, not_built};
 ghost use Rattle.aq_parse.specs.Whole.{script_in};
@@ -10,11 +10,11 @@ use crate::conditions::fits_first_language;
 use crate::fault::{ReadFault, ScriptFault};
 use crate::lexer::tokens_of;
 use crate::parser::script_of;
-use aq_base::{Code, NoMemory, Script, SqlFault, TextVal};
+use aq_base::{Code, NoMemory, SimpleScript, SqlFault, TextVal};
 use std::alloc::Global;
 
 #[tactic(auto, unfolding(crate::specs::Whole::script_in))]
-fn script_in(alloc: Global, bytes: &[u8]) -> Result<Script, ReadFault>
+fn script_in(alloc: Global, bytes: &[u8]) -> Result<SimpleScript, ReadFault>
     ensures { Gives (λ script. script) result (script_in bytes.now) }
 {
     let tokens = tokens_of(alloc, bytes)?;
@@ -48,7 +48,7 @@ fn refusal(alloc: Global) -> ScriptFault
 /// setup section, INSERT, DELETE, BEGIN, COMMIT and ROLLBACK in at most one session, and no schedule
 /// section. A refusal says nothing of the place: its line is always 1.
 #[tactic(auto, using(crate::proofs::Whole::read_so))]
-pub fn read_script(alloc: Global, bytes: &[u8]) -> Result<Script, ScriptFault>
+pub fn read_script(alloc: Global, bytes: &[u8]) -> Result<SimpleScript, ScriptFault>
     ensures read { IfOk result (λ script. Reads bytes.now script) }
     ensures refused { IfErr result (λ fault. IfRefused fault (λ line said. HasNoReading bytes.now)) }
     ensures says { IfErr result (λ fault. IfRefused fault (λ line said. (line ≡ 1) × (said ≡ not_built))) }
@@ -62,5 +62,5 @@ pub fn read_script(alloc: Global, bytes: &[u8]) -> Result<Script, ScriptFault>
 
 /// Bytes are read as one script at the most.
 pub fn one_reading()
-    ensures { (bytes : List ℕ) (a b : Script) → Reads bytes a → Reads bytes b → a ≡ b }
+    ensures { (bytes : List ℕ) (a b : SimpleScript) → Reads bytes a → Reads bytes b → a ≡ b }
 {}

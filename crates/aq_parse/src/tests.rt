@@ -1,5 +1,5 @@
 use super::*;
-use aq_base::{ColumnConstraint, Script, Statement, Value};
+use aq_base::{SimpleConstraint, SimpleScript, SimpleStatement, Value};
 use std::test::*;
 
 const ROW_TWO: &[u8] =
@@ -16,7 +16,7 @@ fn reads_row_two(rt: HostRuntime) -> Result<(), Fail> {
     assert_eq!(rt; session.statements.len(), 3);
     let last = session.statements.get(2).ok_or("no third statement")?;
     assert_eq!(rt; last.line, 5);
-    let Statement::Insert { table, rows } = &last.statement else {
+    let SimpleStatement::Insert { table, rows } = &last.statement else {
         return Err("no INSERT".into());
     };
     assert!(rt; table.as_str() == "c");
@@ -54,15 +54,15 @@ fn reads_deletes_and_blocks(rt: HostRuntime) -> Result<(), Fail> {
     let [first, second, third, fourth, fifth] = session.statements.as_slice() else {
         return Err("not five statements".into());
     };
-    assert!(rt; matches!(&first.statement, Statement::Begin));
-    assert!(rt; matches!(&fourth.statement, Statement::Commit));
-    assert!(rt; matches!(&fifth.statement, Statement::Rollback));
+    assert!(rt; matches!(&first.statement, SimpleStatement::Begin));
+    assert!(rt; matches!(&fourth.statement, SimpleStatement::Commit));
+    assert!(rt; matches!(&fifth.statement, SimpleStatement::Rollback));
     assert_eq!(rt; (first.line, third.line, fifth.line), (3, 4, 5));
-    let Statement::Delete { table } = &second.statement else {
+    let SimpleStatement::Delete { table } = &second.statement else {
         return Err("no DELETE".into());
     };
     assert!(rt; table.as_str() == "t");
-    let Statement::Insert { rows, .. } = &third.statement else {
+    let SimpleStatement::Insert { rows, .. } = &third.statement else {
         return Err("no INSERT".into());
     };
     let row = rows.get(0).ok_or("no row")?;
@@ -71,13 +71,13 @@ fn reads_deletes_and_blocks(rt: HostRuntime) -> Result<(), Fail> {
 }
 
 /// Whether each column of a script's second table refers to a table: deferrable, and deferred.
-fn timings(script: &Script) -> Option<[(bool, bool); 4]> {
-    let Statement::CreateTable { items, .. } = &script.setup.get(1)?.statement else {
+fn timings(script: &SimpleScript) -> Option<[(bool, bool); 4]> {
+    let SimpleStatement::CreateTable { items, .. } = &script.setup.get(1)?.statement else {
         return None;
     };
     let mut timings = [(false, false); 4];
     for (timing, item) in timings.iter_mut().zip(items.as_slice()) {
-        let Some(ColumnConstraint::References { decl, .. }) = &item.constraint else {
+        let Some(SimpleConstraint::References { decl, .. }) = &item.constraint else {
             return None;
         };
         *timing = (decl.deferrable, decl.deferred);

@@ -8,8 +8,8 @@ use Rattle.aq_base.specs.Values.{Row}
 use Rattle.aq_base.specs.Databases.{Database}
 use Rattle.aq_base.specs.Setup.{Program, catalog_of, bound_statements, program_of}
 use Rattle.aq_base.specs.declared.catalog.Table.{Table}
-use Rattle.aq_base.specs.declared.script.SessionText.{SessionText}
-use Rattle.aq_base.specs.declared.script.Script.{Script}
+use Rattle.aq_base.specs.declared.simple.SimpleSession.{SimpleSession}
+use Rattle.aq_base.specs.declared.simple.SimpleScript.{SimpleScript}
 use Rattle.aq_run.specs.States.{State, Given, at_start, opening, session_at, last_database}
 use Rattle.aq_run.specs.Effects.{effects}
 use Rattle.aq_run.specs.Steps.{effects_of, scene_of, step}
@@ -83,12 +83,12 @@ IsSchedule-below program w can =
     subst (λ n. are_below n w ≡ true) (length-map program.sessions (λ _. at_start)) (CanRunFrom-below program (opening program) w can)
 
 -- they have names
-pub IsSchedule-named : (script : Script) (w : Schedule) → IsSchedule (program_of script) w → are_named (program_of script).names w ≡ true
+pub IsSchedule-named : (script : SimpleScript) (w : Schedule) → IsSchedule (program_of script) w → are_named (program_of script).names w ≡ true
 IsSchedule-named script w can =
     subst (λ n. are_below n w ≡ true)
-    (length-map script.sessions (bound_statements (catalog_of script)) ∙ sym (length-map script.sessions (λ (session : SessionText). session.name)))
+    (length-map script.sessions (bound_statements (catalog_of script)) ∙ sym (length-map script.sessions (λ (session : SimpleSession). session.name)))
     (IsSchedule-below (program_of script) w can)
 
 -- one that isn't too long can be told
-pub IsSchedule-told : (script : Script) (w : Schedule) → IsSchedule (program_of script) w → length w < 10 ^ 64 → CanBeTold (program_of script).names w
+pub IsSchedule-told : (script : SimpleScript) (w : Schedule) → IsSchedule (program_of script) w → length w < 10 ^ 64 → CanBeTold (program_of script).names w
 IsSchedule-told script w can short = record { named = IsSchedule-named script w can; short = short }

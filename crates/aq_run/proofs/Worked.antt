@@ -9,11 +9,11 @@ use Rattle.aq_base.specs.Scripts.{fits_first_language}
 use Rattle.aq_base.specs.declared.value.Value.TheVariants.{Null, Int}
 use Rattle.aq_base.specs.declared.catalog.Decl.{Decl}
 use Rattle.aq_base.specs.declared.script.Kind.TheVariants.{Integer}
-use Rattle.aq_base.specs.declared.script.ColumnConstraint.TheVariants.{PrimaryKey, References}
-use Rattle.aq_base.specs.declared.script.Statement.{Statement}
-use Rattle.aq_base.specs.declared.script.Statement.TheVariants.{CreateTable, Insert, Delete, Begin, Commit, Rollback}
-use Rattle.aq_base.specs.declared.script.Placed.{Placed}
-use Rattle.aq_base.specs.declared.script.Script.{Script}
+use Rattle.aq_base.specs.declared.simple.SimpleConstraint.TheVariants.{PrimaryKey, References}
+use Rattle.aq_base.specs.declared.simple.SimpleStatement.{SimpleStatement}
+use Rattle.aq_base.specs.declared.simple.SimpleStatement.TheVariants.{CreateTable, Insert, Delete, Begin, Commit, Rollback}
+use Rattle.aq_base.specs.declared.simple.SimplePlaced.{SimplePlaced}
+use Rattle.aq_base.specs.declared.simple.SimpleScript.{SimpleScript}
 use Rattle.aq_run.specs.Effects.{effect}
 use Rattle.aq_run.specs.Steps.{plan_of, effects_of, step}
 use Rattle.aq_run.specs.Runs.{run_from, run, have_all_ended}
@@ -27,7 +27,7 @@ abbrev at_commit : Decl
 at_commit = record { deferrable = true; deferred = true }
 
 -- CREATE TABLE p (id integer PRIMARY KEY); CREATE TABLE c (pid integer REFERENCES p);
-abbrev parent_and_child : List Placed
+abbrev parent_and_child : List SimplePlaced
 parent_and_child =
     record { line = 1; statement = CreateTable (codes "p") (record { name = codes "id"; kind = Integer; constraint = Some PrimaryKey } ∷ []) }
     ∷ record { line = 1; statement = CreateTable (codes "c") (record { name = codes "pid"; kind = Integer; constraint = Some (References (codes "p") at_once) } ∷ []) } ∷ []
@@ -35,14 +35,14 @@ parent_and_child =
 abbrev ints : List ℕ → Row
 ints ns = map (λ n. Int (pos n)) ns
 
-abbrev insert : Text → List (List ℕ) → Placed
+abbrev insert : Text → List (List ℕ) → SimplePlaced
 insert table rows = record { line = 1; statement = Insert table (map ints rows) }
 
-abbrev one_session : List Placed → List Placed → Script
+abbrev one_session : List SimplePlaced → List SimplePlaced → SimpleScript
 one_session setup statements = record { setup = setup; sessions = record { name = codes "a"; statements = statements } ∷ []; schedule = None }
 
 -- a parent, its child, and a child that has no parent
-abbrev missing_parent : Script
+abbrev missing_parent : SimpleScript
 missing_parent = one_session parent_and_child (insert (codes "p") ((1 ∷ []) ∷ []) ∷ insert (codes "c") ((1 ∷ []) ∷ []) ∷ insert (codes "c") ((2 ∷ []) ∷ []) ∷ [])
 
 missing_parent-fits : fits_first_language missing_parent ≡ true
@@ -64,11 +64,11 @@ missing_parent-text : text (program_of missing_parent) (replicate 18 0)
 unfolding run_from step effect effects_of plan_of digits
 missing_parent-text = refl
 
-abbrev step_by_step : Script → List ℕ → Text
+abbrev step_by_step : SimpleScript → List ℕ → Text
 step_by_step script schedule = text (program_of script) schedule
 
 -- nothing at all
-nothing : Script
+nothing : SimpleScript
 nothing = record { setup = []; sessions = []; schedule = None }
 
 nothing-text : step_by_step nothing [] ≡ line (codes "schedule")
@@ -76,7 +76,7 @@ unfolding nothing run_from
 nothing-text = refl
 
 -- a statement that repeats a key keeps none of its rows, and the rows after it are as if it hadn't been
-abbrev repeated_key : Script
+abbrev repeated_key : SimpleScript
 repeated_key = one_session parent_and_child (insert (codes "p") ((1 ∷ []) ∷ (2 ∷ []) ∷ (1 ∷ []) ∷ (3 ∷ []) ∷ []) ∷ insert (codes "p") ((3 ∷ []) ∷ []) ∷ [])
 
 repeated_key-text : step_by_step repeated_key (replicate 10 0)
@@ -87,7 +87,7 @@ unfolding run_from step effect effects_of plan_of digits
 repeated_key-text = refl
 
 -- a key that is taken by a committed row
-abbrev taken_key : Script
+abbrev taken_key : SimpleScript
 taken_key = one_session parent_and_child (insert (codes "p") ((7 ∷ []) ∷ []) ∷ insert (codes "p") ((7 ∷ []) ∷ []) ∷ [])
 
 taken_key-text : step_by_step taken_key (replicate 8 0)
@@ -98,7 +98,7 @@ unfolding run_from step effect effects_of plan_of digits
 taken_key-text = refl
 
 -- two foreign keys of one row: both checks fire, the second finds no parent, and all rows of the statement go
-abbrev two_parents : Script
+abbrev two_parents : SimpleScript
 two_parents =
     one_session
     (record { line = 1; statement = CreateTable (codes "p") (record { name = codes "id"; kind = Integer; constraint = Some PrimaryKey } ∷ []) }
@@ -134,16 +134,16 @@ repeated_key-not_before = refl
 
 -- ---- blocks, deferred checks, deletes and nulls
 
-abbrev plain : Statement → Placed
+abbrev plain : SimpleStatement → SimplePlaced
 plain statement = record { line = 1; statement = statement }
 
-abbrev deferred_child : List Placed
+abbrev deferred_child : List SimplePlaced
 deferred_child =
     plain (CreateTable (codes "p") (record { name = codes "id"; kind = Integer; constraint = Some PrimaryKey } ∷ []))
     ∷ plain (CreateTable (codes "c") (record { name = codes "pid"; kind = Integer; constraint = Some (References (codes "p") at_commit) } ∷ [])) ∷ []
 
 -- a table that refers to itself
-abbrev tree : Script
+abbrev tree : SimpleScript
 tree =
     one_session
     (plain (CreateTable (codes "node") (record { name = codes "id"; kind = Integer; constraint = Some PrimaryKey } ∷ record { name = codes "up"; kind = Integer; constraint = Some (References (codes "node") at_once) } ∷ [])) ∷ [])
@@ -162,7 +162,7 @@ unfolding run_from step effect effects_of plan_of
 tree-not_before = refl
 
 -- a deferred check fires at COMMIT, and its error is COMMIT's reply
-abbrev late_parent : Script
+abbrev late_parent : SimpleScript
 late_parent =
     one_session deferred_child
     (plain Begin ∷ insert (codes "c") ((1 ∷ []) ∷ []) ∷ insert (codes "p") ((1 ∷ []) ∷ []) ∷ plain Commit
@@ -182,7 +182,7 @@ unfolding run_from step effect effects_of plan_of
 late_parent-not_before = refl
 
 -- the check of a row that was deleted since is skipped
-abbrev deleted_child : Script
+abbrev deleted_child : SimpleScript
 deleted_child = one_session deferred_child (plain Begin ∷ insert (codes "c") ((7 ∷ []) ∷ []) ∷ plain (Delete (codes "c")) ∷ plain Commit ∷ [])
 
 deleted_child-text : step_by_step deleted_child (replicate 14 0)
@@ -196,7 +196,7 @@ unfolding run_from step effect effects_of plan_of
 deleted_child-not_before = refl
 
 -- the states of a block
-abbrev block_states : Script
+abbrev block_states : SimpleScript
 block_states =
     one_session (plain (CreateTable (codes "p") (record { name = codes "id"; kind = Integer; constraint = Some PrimaryKey } ∷ [])) ∷ [])
     (plain Commit ∷ plain Begin ∷ plain Begin ∷ insert (codes "p") ((1 ∷ []) ∷ []) ∷ insert (codes "p") ((1 ∷ []) ∷ []) ∷ plain (Delete (codes "p"))
@@ -214,7 +214,7 @@ unfolding run_from step effect effects_of plan_of digits
 block_states-text = refl
 
 -- a parent that still has a child can't be deleted, and a null in a primary key is refused
-abbrev kept_parent : Script
+abbrev kept_parent : SimpleScript
 kept_parent =
     one_session parent_and_child
     (insert (codes "p") ((1 ∷ []) ∷ []) ∷ insert (codes "c") ((1 ∷ []) ∷ []) ∷ plain (Delete (codes "p")) ∷ plain (Insert (codes "p") ((Null ∷ []) ∷ [])) ∷ [])

@@ -5,7 +5,7 @@ use Rattle.aq_base.specs.Databases.{Database}
 use Rattle.aq_base.specs.Writes.{Writes, overlay}
 use Rattle.aq_base.specs.Works.{Work}
 use Rattle.aq_base.specs.Setup.{Program}
-use Rattle.aq_base.specs.declared.script.Script.{Script}
+use Rattle.aq_base.specs.declared.simple.SimpleScript.{SimpleScript}
 use Rattle.aq_base.specs.declared.reply.ReplyLine.{ReplyLine}
 
 -- a data statement in progress, without its targets
@@ -73,7 +73,7 @@ pub record State : Type 0 where
 
 -- what a machine stands for: a script, and the state of its run
 pub record Standing : Type 0 where
-  pub script : Script
+  pub script : SimpleScript
   pub state : State
 
 abbrev pub at_start : Session

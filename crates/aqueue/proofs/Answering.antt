@@ -2,7 +2,7 @@
 use Rattle.std.proofs.Common.{◌≡◌, ℕ, ◌<◌, ◌≤◌, Bool, true, false, List, [], ◌∷◌, length, Option, Some, None, refl, sym, ap, subst, ◌∙◌, arith, Result, Ok, Err}
 use Rattle.std.specs.Prelude.{IfSome, IfOk}
 use Rattle.aq_base.specs.Names.{Text}
-use Rattle.aq_base.specs.declared.script.Script.{Script}
+use Rattle.aq_base.specs.declared.simple.SimpleScript.{SimpleScript}
 use Rattle.aq_parse.specs.Reading.{Reads, HasNoReading, not_built}
 use Rattle.aqueue.specs.Answers.{are_replay, script_limit, usage_line, too_long_line, refusal_line, IsReplay, IsAnswer, is_one_of}
 use Rattle.aq_base.specs.declared.fault.SqlFault.{SqlFault}
@@ -48,7 +48,7 @@ refused_answer words input status output bytes (Replayed ws i t r l) is e short 
     absurd (none _ (told input bytes (λ bs. (length bs ≤ script_limit) × IsReplay bs output) e l).1.read)
 
 -- bytes that are a script are answered with its text
-pub replayed_answer : (words : List Text) (input : Option (List ℕ)) (status : ℕ) (output : Text) (bytes : List ℕ) (script : Script) → IsAnswer words input status output → are_replay words ≡ true →
+pub replayed_answer : (words : List Text) (input : Option (List ℕ)) (status : ℕ) (output : Text) (bytes : List ℕ) (script : SimpleScript) → IsAnswer words input status output → are_replay words ≡ true →
     input ≡ Some bytes → length bytes ≤ script_limit → Reads bytes script → is_one_of (0 ∷ 6 ∷ []) status ≡ true
 replayed_answer words input status output bytes script (Usage ws i u) is e short reads = absurd (no_replay words u is)
 replayed_answer words input status output bytes script (Too_long ws i r l) is e short reads =

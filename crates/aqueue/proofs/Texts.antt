@@ -6,8 +6,8 @@ use Rattle.aq_base.specs.Names.{Text, is_name, all_differ}
 use Rattle.aq_base.specs.Catalogs.{Catalog}
 use Rattle.aq_base.specs.Setup.{program_of, catalog_of}
 use Rattle.aq_base.specs.Scripts.{fits_first_language, session_fits}
-use Rattle.aq_base.specs.declared.script.Script.{Script}
-use Rattle.aq_base.specs.declared.script.SessionText.{SessionText}
+use Rattle.aq_base.specs.declared.simple.SimpleScript.{SimpleScript}
+use Rattle.aq_base.specs.declared.simple.SimpleSession.{SimpleSession}
 use Rattle.aq_run.specs.States.{opening}
 use Rattle.aq_run.specs.Runs.{Schedule, run, GoesByDefault, IsSchedule, IsComplete}
 use Rattle.aq_run.specs.Texts.{text}
@@ -26,7 +26,7 @@ both_right : (a b : Bool) → (a && b) ≡ true → b ≡ true
 both_right true b e = e
 both_right false b e = absurd cc
 
-names_fit : (cat : Catalog) (sessions : List SessionText) → list_all (session_fits cat) sessions ≡ true → list_all is_name (map (λ session. session.name) sessions) ≡ true
+names_fit : (cat : Catalog) (sessions : List SimpleSession) → list_all (session_fits cat) sessions ≡ true → list_all is_name (map (λ session. session.name) sessions) ≡ true
 names_fit cat [] e = refl
 names_fit cat (session ∷ sessions) e =
     let first = both_left (session_fits cat session) (list_all (session_fits cat) sessions) e in
@@ -34,18 +34,18 @@ names_fit cat (session ∷ sessions) e =
     rw (both_left (is_name session.name) _ first, names_fit cat sessions later) refl
 
 -- the parts of the conditions that are wanted here
-record Fits (script : Script) : Type 0 where
+record Fits (script : SimpleScript) : Type 0 where
   names : list_all is_name (program_of script).names ≡ true
   differ : all_differ (program_of script).names ≡ true
   one_session : length script.sessions ≤ 1
 
 -- one name is no other's
-alone_differ : (sessions : List SessionText) → leb (length sessions) 1 ≡ true → all_differ (map (λ session. session.name) sessions) ≡ true
+alone_differ : (sessions : List SimpleSession) → leb (length sessions) 1 ≡ true → all_differ (map (λ session. session.name) sessions) ≡ true
 alone_differ [] few = refl
 alone_differ (session ∷ []) few = refl
 alone_differ (session ∷ second ∷ sessions) few = let none : 2 + length sessions ≤ 1 = grind (arith, nat_tests) in absurd (omega arith)
 
-fits : (script : Script) → fits_first_language script ≡ true → Fits script
+fits : (script : SimpleScript) → fits_first_language script ≡ true → Fits script
 fits script e =
     let at_most_rows = both_left _ _ e in
     let no_schedule = both_left _ _ at_most_rows in
@@ -59,10 +59,10 @@ fits script e =
     }
 
 -- a script as it is opened, with no step yet
-abbrev pub opened : Script → Journal
+abbrev pub opened : SimpleScript → Journal
 opened script = record { script = script; state = opening (program_of script); schedule = [] }
 
-pub finished_text : (script : Script) (after : Journal) (output : Text) → fits_first_language script ≡ true → Finishes (opened script) after
+pub finished_text : (script : SimpleScript) (after : Journal) (output : Text) → fits_first_language script ≡ true → Finishes (opened script) after
     → length after.schedule < 2 ^ 64 → output ≡ text (program_of after.script) after.schedule → IsTextOf script output
 finished_text script after output e finishes short printed =
     let goes = finishes.goes_on in

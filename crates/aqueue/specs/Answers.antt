@@ -6,7 +6,7 @@ use Rattle.std.specs.Io.KnownBytes.{Appends}
 use Rattle.aq_base.specs.Names.{Text, same_text}
 use Rattle.aq_base.specs.Setup.{Program, program_of}
 use Rattle.aq_base.specs.declared.fault.SqlFault.{SqlFault}
-use Rattle.aq_base.specs.declared.script.Script.{Script}
+use Rattle.aq_base.specs.declared.simple.SimpleScript.{SimpleScript}
 use Rattle.aq_parse.specs.Reading.{Reads, HasNoReading, not_built}
 use Rattle.aq_run.specs.Runs.{Schedule, run, IsSchedule, IsComplete, IsDefaultSchedule}
 use Rattle.aq_run.specs.Texts.{line, text}
@@ -39,7 +39,7 @@ refusal_line number fault = line (codes "aqueue: line " ++ decimal number ++ cod
 
 -- The output is the text of the script's run by the default schedule. Its last line tells that schedule, after which all
 -- sessions have ended; and every database of the run satisfies every foreign key and every unique key.
-pub record IsTextOf (script : Script) (output : Text) : Type 0 where
+pub record IsTextOf (script : SimpleScript) (output : Text) : Type 0 where
   pub schedule : Schedule
   pub by_default : IsDefaultSchedule (program_of script) schedule
   pub printed : output ≡ text (program_of script) schedule
@@ -51,7 +51,7 @@ pub record IsTextOf (script : Script) (output : Text) : Type 0 where
 
 -- the output is the text of a script that the bytes are
 pub record IsReplay (bytes : List ℕ) (output : Text) : Type 0 where
-  pub script : Script
+  pub script : SimpleScript
   pub read : Reads bytes script
   pub is_text : IsTextOf script output
 

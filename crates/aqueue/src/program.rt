@@ -6,7 +6,7 @@ ghost use Rattle.aq_causes.specs.Counts.{Rose};
 ghost use Rattle.aq_parse.specs.Reading.{Reads, HasNoReading, not_built};
 ghost use Rattle.aqueue.specs.Answers.{are_replay, script_limit, usage_line, too_long_line, refusal_line, IsReplay, IsAnswer, Wrote, WroteBeginning, is_one_of};
 ghost use Rattle.aq_base.specs.Names.{Text};
-ghost use Rattle.aq_base.specs.declared.script.Script.{Script};
+ghost use Rattle.aq_base.specs.declared.simple.SimpleScript.{SimpleScript};
 ghost use Rattle.aqueue.specs.Outcomes.{OutcomeCases};
 
 use crate::replay::{RunFault, replay_script};
@@ -135,7 +135,7 @@ pub fn aqueue<S: Source, K: Sink>(
     ensures too_long_comes { are_replay words.now ≡ true → IfSome (S.left input.old) (λ bytes. script_limit < length bytes → is_one_of (4 ∷ 5 ∷ 6 ∷ 7 ∷ []) result ≡ true) }
     // There is no other status, and where no cause is met it is 0 or 6.
     ensures statuses { is_one_of (0 ∷ 1 ∷ 2 ∷ 4 ∷ 5 ∷ 6 ∷ 7 ∷ []) result ≡ true }
-    ensures complete { are_replay words.now ≡ true → IfSome (S.left input.old) (λ bytes. length bytes ≤ script_limit → (script : Script) → Reads bytes script →
+    ensures complete { are_replay words.now ≡ true → IfSome (S.left input.old) (λ bytes. length bytes ≤ script_limit → (script : SimpleScript) → Reads bytes script →
         ¬ Rose (S.faults input.old) (S.faults input.new) → ¬ Rose (K.faults output.old) (K.faults output.new) → is_one_of (0 ∷ 6 ∷ []) result ≡ true) }
     ensures source_count { S.faults input.old ≤ S.faults input.new }
     ensures sink_count { K.faults output.old ≤ K.faults output.new }

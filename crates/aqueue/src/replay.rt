@@ -6,7 +6,7 @@ ghost use Rattle.aq_parse.specs.Reading.{HasNoReading, not_built};
 ghost use Rattle.aqueue.specs.Answers.{IsReplay, IsTextOf};
 ghost use Rattle.aqueue.specs.Faults.{IfScript};
 
-use aq_base::{List, NoMemory, Script, SqlFault};
+use aq_base::{List, NoMemory, SimpleScript, SqlFault};
 use aq_journal::Shared;
 use aq_machine::Machine;
 use aq_parse::{ScriptFault, read_script};
@@ -24,7 +24,7 @@ pub enum RunFault {
     Script { line: u64, fault: SqlFault },
 }
 
-fn replayed(alloc: Global, script: Script) -> Result<List<u8>, NoMemory>
+fn replayed(alloc: Global, script: SimpleScript) -> Result<List<u8>, NoMemory>
     requires { fits_first_language script ≡ true }
     ensures { IfOk result (IsTextOf script) }
 {

@@ -1,5 +1,5 @@
 use Rattle.std.proofs.Common.{◌≡◌, ℕ, ◌≤◌, true, List, [], ◌∷◌, length, subst}
-use Rattle.aq_base.specs.declared.script.Script.{Script}
+use Rattle.aq_base.specs.declared.simple.SimpleScript.{SimpleScript}
 use Rattle.aq_causes.specs.Counts.{Rose}
 use Rattle.aq_parse.specs.Reading.{Reads, HasNoReading}
 use Rattle.aqueue.specs.Answers.{script_limit, is_one_of}
