@@ -1,5 +1,5 @@
 -- What the setup of a script makes: tables, unique keys, foreign keys and their triggers.
-use Rattle.std.specs.Prelude.{ℕ, List}
+use Rattle.std.specs.Prelude.{List}
 use Rattle.aq_base.specs.declared.catalog.Table.{Table}
 use Rattle.aq_base.specs.declared.catalog.UniqueKey.{UniqueKey}
 use Rattle.aq_base.specs.declared.catalog.ForeignKey.{ForeignKey}

@@ -1,3 +1,4 @@
+pub mod formers
 pub mod Values
 pub mod Maps
 pub mod Catalogs

@@ -1,13 +1,9 @@
 -- What the setup statements of a script make, and what its sessions' statements say with numbers for names.
-use Rattle.std.specs.Prelude.{ℕ, ◌+◌, Bool, true, false, ◌==◌, List, [], ◌∷◌, ◌++◌, length, map, Option, Some, None, find, position, unwrap_or, option_map, option_and_then, if◌then◌else◌}
+use Rattle.std.specs.Prelude.{ℕ, ◌+◌, Bool, true, false, ◌==◌, List, [], ◌∷◌, ◌++◌, length, map, Option, Some, None, find, position, option_map, option_and_then, if◌then◌else◌}
 use Rattle.std.specs.List.{filter_map}
 use Rattle.aq_base.specs.Names.{Text, same_text, primary_key_name, foreign_key_name}
 use Rattle.aq_base.specs.Catalogs.{Catalog}
 use Rattle.aq_base.specs.declared.catalog.Column.{Column}
-use Rattle.aq_base.specs.declared.catalog.Table.{Table}
-use Rattle.aq_base.specs.declared.catalog.UniqueKey.{UniqueKey}
-use Rattle.aq_base.specs.declared.catalog.ForeignKey.{ForeignKey}
-use Rattle.aq_base.specs.declared.catalog.Trigger.{Trigger}
 use Rattle.aq_base.specs.declared.catalog.Decl.{Decl}
 use Rattle.aq_base.specs.declared.catalog.Op.TheVariants.{Insert as On_insert, Update as On_update, Delete as On_delete}
 use Rattle.aq_base.specs.declared.catalog.Does.TheVariants.{Check, Parent}

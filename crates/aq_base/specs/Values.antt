@@ -1,5 +1,5 @@
 -- Values and keys, and when two keys are the same (PostgreSQL manual, page CREATE TABLE, UNIQUE and REFERENCES).
-use Rattle.std.specs.Prelude.{ℕ, ℤ, Bool, true, false, not, ◌&&◌, ◌==◌, List, [], ◌∷◌, map, unwrap_or, slice_get, nat_eq}
+use Rattle.std.specs.Prelude.{ℕ, Bool, true, false, not, ◌&&◌, List, [], ◌∷◌, map, unwrap_or, slice_get, nat_eq}
 use Rattle.std.specs.Ordering.{int_eq}
 use Rattle.std.specs.List.{list_all}
 use Rattle.std.specs.Cmp.Lexicographic.{pointwise}

@@ -1,5 +1,6 @@
 use crate::list::List;
 use crate::numbers::{ColNo, FkNo, TabNo};
+use crate::same::Same;
 use crate::script::Kind;
 use crate::text::TextVal;
 
@@ -68,4 +69,10 @@ pub struct Trigger {
     pub ops: List<Op>,
     pub decl: Decl,
     pub does: Does,
+}
+
+impl Same for Decl {
+    fn same(&self, other: &Self) -> bool {
+        *self == *other
+    }
 }

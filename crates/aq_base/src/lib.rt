@@ -1,27 +1,50 @@
 //! Values, rows, keys, texts and scripts: what every other crate speaks of.
 #![tactic(auto)]
 
+mod body;
+mod boxed;
 mod catalog;
+mod constraint;
 mod copies;
+mod data;
+mod expr;
 mod fault;
 mod list;
+mod modes;
 mod numbers;
 mod reply;
+mod same;
 mod script;
 mod simple;
+mod statement;
+mod table;
 mod text;
+mod trigger;
 mod value;
 
+pub use body::{BodyStatement, ElseIf, Returned};
+pub use boxed::Boxed;
 pub use catalog::{Column, Decl, Does, ForeignKey, Op, Table, Trigger, UniqueKey};
+pub use constraint::{Action, ColumnConstraint, Match, Reference, TableConstraint};
 pub use copies::Copies;
+pub use data::{Assignment, Columns, Delete, Given, Insert, LockMode, Select, Source, Update};
+pub use expr::{Comparison, Expr};
 pub use fault::{Code, SqlFault};
 pub use list::List;
+pub use modes::{ConstraintMode, Constraints, SetConstraints};
 pub use numbers::{ColNo, FkNo, RowNo, TabNo};
 pub use reply::ReplyLine;
-pub use script::{Bound, Item, Kind};
+pub use same::Same;
+pub use script::{Bound, Item, Kind, Placed, Script, SessionText};
 pub use simple::{
     SimpleColumn, SimpleConstraint, SimplePlaced, SimpleScript, SimpleSession, SimpleStatement,
 };
+pub use statement::{Isolation, Statement};
 pub use std::alloc::AllocError as NoMemory;
+pub use table::{AlterTable, CreateTable, TableItem};
 pub use text::TextVal;
+pub use trigger::{
+    CreateConstraintTrigger, CreateFunction, CreateTrigger, Each, Transition, TransitionTable,
+    TriggerEvent,
+};
 pub use value::{Key, Row, Value, key_eq, key_of, value_eq};

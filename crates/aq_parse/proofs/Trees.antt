@@ -247,23 +247,20 @@ item_takes tokens found e =
     let tc = constraint_takes b.0 c.0 c.1 in
     let made : SimpleColumn × List Lexed = (record { name = a.0.0; kind = kinds.Integer; constraint = c.0.0 }, c.0.1) in
     subst (λ (f : SimpleColumn × List Lexed). SpellsItem f.0 tokens f.1) (some_is made found c.2)
-    (b.0, begins_then (Word a.0.0 ∷ []) (Word (codes "integer") ∷ []) tokens a.0.1 b.0 ta tb, tc)
-
-is_integer : (kind : Kind) → kind ≡ kinds.Integer
-is_integer kinds.Integer = refl
+    (refl, (b.0, begins_then (Word a.0.0 ∷ []) (Word (codes "integer") ∷ []) tokens a.0.1 b.0 ta tb, tc))
 
 item_again : (item : SimpleColumn) (tokens rest : List Lexed) → SpellsItem item tokens rest → begins_with is_symbol_token rest ≡ true → item_at tokens ≡ Some (item, rest)
 unfolding item_at
 item_again item tokens rest h follows =
-    let a = name_again item.name (Word (codes "integer") ∷ []) tokens h.0 h.1 in
-    let b = one_read (is_keyword (codes "integer")) (Word (codes "integer")) a.0 h.0 (keyword_test (codes "integer")) a.2 in
-    let c = constraint_again item.constraint h.0 rest h.2 follows in
-    rw (a.1, b, c) (ap (λ (kind : Kind). Some (record { name = item.name; kind = kind; constraint = item.constraint }, rest)) (sym (is_integer item.kind)))
+    let a = name_again item.name (Word (codes "integer") ∷ []) tokens h.1.0 h.1.1 in
+    let b = one_read (is_keyword (codes "integer")) (Word (codes "integer")) a.0 h.1.0 (keyword_test (codes "integer")) a.2 in
+    let c = constraint_again item.constraint h.1.0 rest h.1.2 follows in
+    rw (a.1, b, c) (ap (λ (kind : Kind). Some (record { name = item.name; kind = kind; constraint = item.constraint }, rest)) (sym h.0))
 
 item_no_longer : (item : SimpleColumn) (tokens rest : List Lexed) → SpellsItem item tokens rest → length rest ≤ length tokens
 item_no_longer item tokens rest h =
-    let a = begins_no_longer (Word item.name ∷ Word (codes "integer") ∷ []) tokens h.0 h.1 in
-    let b = constraint_no_longer item.constraint h.0 rest h.2 in
+    let a = begins_no_longer (Word item.name ∷ Word (codes "integer") ∷ []) tokens h.1.0 h.1.1 in
+    let b = constraint_no_longer item.constraint h.1.0 rest h.1.2 in
     omega (arith, a, b)
 
 pub item_reader : IsReader SpellsItem item_at

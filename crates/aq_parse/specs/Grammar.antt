@@ -9,6 +9,7 @@ use Rattle.aq_base.specs.Values.{Row}
 use Rattle.aq_base.specs.declared.value.Value.{Value}
 use Rattle.aq_base.specs.declared.value.Value.TheVariants.{Null, Bool as Truth, Int, Text}
 use Rattle.aq_base.specs.declared.catalog.Decl.{Decl}
+use Rattle.aq_base.specs.declared.script.Kind.TheVariants as kinds
 use Rattle.aq_base.specs.declared.simple.SimpleConstraint.{SimpleConstraint}
 use Rattle.aq_base.specs.declared.simple.SimpleConstraint.TheVariants.{PrimaryKey, References}
 use Rattle.aq_base.specs.declared.simple.SimpleColumn.{SimpleColumn}
@@ -75,8 +76,10 @@ SpellsConstraint None tokens rest = BeginsWith [] tokens rest
 SpellsConstraint (Some PrimaryKey) tokens rest = BeginsWith (Word (codes "primary") ∷ Word (codes "key") ∷ []) tokens rest
 SpellsConstraint (Some (References parent decl)) tokens rest = (BeginsWith (Word (codes "references") ∷ Word parent ∷ []) >> SpellsTiming decl) tokens rest
 
+-- a column, whose kind is the only one that the language has
 abbrev pub SpellsItem : SimpleColumn → List Lexed → List Lexed → Type 0
-SpellsItem item = BeginsWith (Word item.name ∷ Word (codes "integer") ∷ []) >> SpellsConstraint item.constraint
+SpellsItem item tokens rest =
+    (item.kind ≡ kinds.Integer) × (BeginsWith (Word item.name ∷ Word (codes "integer") ∷ []) >> SpellsConstraint item.constraint) tokens rest
 
 -- an integer literal or NULL; no other value is written
 abbrev pub SpellsValue : Value → List Lexed → List Lexed → Type 0

@@ -1,0 +1,162 @@
+//! Bodies of trigger functions (PostgreSQL manual, chapter "PL/pgSQL").
+
+ghost use Rattle.std.specs.Prelude.{◌≡◌, IfOk};
+
+use crate::copies::Copies;
+use crate::data::{Delete, Insert, Update};
+use crate::expr::Expr;
+use crate::list::List;
+use crate::modes::SetConstraints;
+use crate::same::Same;
+use crate::text::TextVal;
+use std::alloc::AllocError;
+
+/// What a body returns. The result of an AFTER trigger is ignored.
+#[derive(Clone, Copy, Debug, PartialEq, Eq)]
+pub enum Returned {
+    Null,
+    New,
+    Old,
+}
+
+/// A statement of a body.
+#[cycle(body)]
+#[derive(Debug, Drop)]
+pub enum BodyStatement {
+    /// `IF condition THEN then else_ifs ELSE otherwise END IF`. An ELSE with nothing after it is there.
+    If {
+        condition: Expr,
+        then: List<BodyStatement>,
+        else_ifs: List<ElseIf>,
+        otherwise: Option<List<BodyStatement>>,
+    },
+    /// `RAISE EXCEPTION text`
+    Raise(TextVal),
+    /// `RETURN NULL`, `RETURN NEW` or `RETURN OLD`
+    Return(Returned),
+    Insert(Insert),
+    Update(Update),
+    Delete(Delete),
+    SetConstraints(SetConstraints),
+}
+
+/// `ELSIF condition THEN then`
+#[cycle(body)]
+#[derive(Debug, Drop)]
+pub struct ElseIf {
+    pub condition: Expr,
+    pub then: List<BodyStatement>,
+}
+
+#[cycle(copies)]
+fn copy_block(block: &List<BodyStatement>) -> Result<List<BodyStatement>, AllocError>
+    ensures { IfOk result (λ made. made ≡ block.now) }
+{
+    let mut made = List::new(*block.allocator());
+    for statement in block.as_slice() {
+        made.push(copy_statement(statement)?)?;
+    }
+    Ok(made)
+}
+
+#[cycle(copies)]
+fn copy_else_if(else_if: &ElseIf) -> Result<ElseIf, AllocError>
+    ensures { IfOk result (λ made. made ≡ else_if.now) }
+{
+    Ok(ElseIf {
+        condition: else_if.condition.copy()?,
+        then: copy_block(&else_if.then)?,
+    })
+}
+
+#[cycle(copies)]
+fn copy_else_ifs(else_ifs: &List<ElseIf>) -> Result<List<ElseIf>, AllocError>
+    ensures { IfOk result (λ made. made ≡ else_ifs.now) }
+{
+    let mut made = List::new(*else_ifs.allocator());
+    for else_if in else_ifs.as_slice() {
+        made.push(copy_else_if(else_if)?)?;
+    }
+    Ok(made)
+}
+
+#[cycle(copies)]
+fn copy_statement(statement: &BodyStatement) -> Result<BodyStatement, AllocError>
+    ensures { IfOk result (λ made. made ≡ statement.now) }
+{
+    match statement {
+        BodyStatement::If {
+            condition,
+            then,
+            else_ifs,
+            otherwise,
+        } => Ok(BodyStatement::If {
+            condition: condition.copy()?,
+            then: copy_block(then)?,
+            else_ifs: copy_else_ifs(else_ifs)?,
+            otherwise: match otherwise {
+                None => None,
+                Some(block) => Some(copy_block(block)?),
+            },
+        }),
+        BodyStatement::Raise(text) => Ok(BodyStatement::Raise(text.copy()?)),
+        BodyStatement::Return(returned) => Ok(BodyStatement::Return(*returned)),
+        BodyStatement::Insert(insert) => Ok(BodyStatement::Insert(insert.copy()?)),
+        BodyStatement::Update(update) => Ok(BodyStatement::Update(update.copy()?)),
+        BodyStatement::Delete(delete) => Ok(BodyStatement::Delete(delete.copy()?)),
+        BodyStatement::SetConstraints(set) => Ok(BodyStatement::SetConstraints(set.copy()?)),
+    }
+}
+
+impl Copies for ElseIf {
+    fn copy(&self) -> Result<Self, AllocError> {
+        copy_else_if(self)
+    }
+}
+
+impl Copies for BodyStatement {
+    fn copy(&self) -> Result<Self, AllocError> {
+        copy_statement(self)
+    }
+}
+
+impl Same for ElseIf {
+    #[cycle(same)]
+    fn same(&self, other: &Self) -> bool {
+        self.condition.same(&other.condition) && self.then.same(&other.then)
+    }
+}
+
+impl Same for BodyStatement {
+    #[cycle(same)]
+    fn same(&self, other: &Self) -> bool {
+        match (self, other) {
+            (
+                BodyStatement::If {
+                    condition,
+                    then,
+                    else_ifs,
+                    otherwise,
+                },
+                BodyStatement::If {
+                    condition: other_condition,
+                    then: other_then,
+                    else_ifs: other_else_ifs,
+                    otherwise: other_otherwise,
+                },
+            ) => {
+                condition.same(other_condition)
+                    && then.same(other_then)
+                    && else_ifs.same(other_else_ifs)
+                    && otherwise.same(other_otherwise)
+            }
+            (BodyStatement::Raise(a), BodyStatement::Raise(b)) => a.same(b),
+            (BodyStatement::Return(a), BodyStatement::Return(b)) => *a == *b,
+            (BodyStatement::Insert(a), BodyStatement::Insert(b)) => a.same(b),
+            (BodyStatement::Update(a), BodyStatement::Update(b)) => a.same(b),
+            (BodyStatement::Delete(a), BodyStatement::Delete(b)) => a.same(b),
+            (BodyStatement::SetConstraints(a), BodyStatement::SetConstraints(b)) => a.same(b),
+            _ => false,
+        }
+    }
+}
