@@ -3,7 +3,7 @@ use Rattle.std.proofs.Common.{◌≡◌, ℕ, ◌<◌, ◌≤◌, Bool, true, fa
 use Rattle.std.specs.Prelude.{IfSome, IfOk}
 use Rattle.aq_base.specs.Names.{Text}
 use Rattle.aq_base.specs.declared.simple.SimpleScript.{SimpleScript}
-use Rattle.aq_parse.specs.Reading.{Reads, HasNoReading, not_built}
+use Rattle.aq_narrow.specs.Reading.{Reads, HasNoReading, not_built}
 use Rattle.aqueue.specs.Answers.{are_replay, script_limit, usage_line, too_long_line, refusal_line, IsReplay, IsAnswer, is_one_of}
 use Rattle.aq_base.specs.declared.fault.SqlFault.{SqlFault}
 use Rattle.aqueue.specs.Outcomes.{OutcomeCases}

@@ -7,7 +7,7 @@ use Rattle.aq_base.specs.Names.{Text, same_text}
 use Rattle.aq_base.specs.Setup.{Program, program_of}
 use Rattle.aq_base.specs.declared.fault.SqlFault.{SqlFault}
 use Rattle.aq_base.specs.declared.simple.SimpleScript.{SimpleScript}
-use Rattle.aq_parse.specs.Reading.{Reads, HasNoReading, not_built}
+use Rattle.aq_narrow.specs.Reading.{Reads, HasNoReading, not_built}
 use Rattle.aq_run.specs.Runs.{Schedule, run, IsSchedule, IsComplete, IsDefaultSchedule}
 use Rattle.aq_run.specs.Texts.{line, text}
 use Rattle.aq_run.specs.Told.{TellsSchedule, CanBeTold}

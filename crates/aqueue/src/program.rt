@@ -3,7 +3,7 @@
 ghost use Rattle.std.specs.Prelude.{◌≡◌, ℕ, ◌<◌, ◌≤◌, List, [], ◌∷◌, true, false, length, Some, IfOk, IfSome};
 ghost use Rattle.std.specs.Io.KnownBytes.{Keeps, Appends};
 ghost use Rattle.aq_causes.specs.Counts.{Rose};
-ghost use Rattle.aq_parse.specs.Reading.{Reads, HasNoReading, not_built};
+ghost use Rattle.aq_narrow.specs.Reading.{Reads, HasNoReading, not_built};
 ghost use Rattle.aqueue.specs.Answers.{are_replay, script_limit, usage_line, too_long_line, refusal_line, IsReplay, IsAnswer, Wrote, WroteBeginning, is_one_of};
 ghost use Rattle.aq_base.specs.Names.{Text};
 ghost use Rattle.aq_base.specs.declared.simple.SimpleScript.{SimpleScript};

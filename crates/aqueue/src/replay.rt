@@ -2,14 +2,14 @@
 
 ghost use Rattle.std.specs.Prelude.{◌≡◌, true, IfOk, IfErr};
 ghost use Rattle.aq_base.specs.Scripts.{fits_first_language};
-ghost use Rattle.aq_parse.specs.Reading.{HasNoReading, not_built};
+ghost use Rattle.aq_narrow.specs.Reading.{HasNoReading, not_built};
 ghost use Rattle.aqueue.specs.Answers.{IsReplay, IsTextOf};
 ghost use Rattle.aqueue.specs.Faults.{IfScript};
 
 use aq_base::{List, NoMemory, SimpleScript, SqlFault};
 use aq_journal::Shared;
 use aq_machine::Machine;
-use aq_parse::{ScriptFault, read_script};
+use aq_narrow::{ScriptFault, read_script};
 use std::alloc::Global;
 use thiserror::Error;
 

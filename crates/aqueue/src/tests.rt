@@ -7,7 +7,7 @@ use aq_base::{List, NoMemory, TextVal};
 use aq_causes::{MemorySink, MemorySource};
 use aq_journal::Shared;
 use aq_machine::Machine;
-use aq_parse::read_script;
+use aq_narrow::read_script;
 use aq_xids::SessNo;
 use std::alloc::Global;
 use std::test::Fail;

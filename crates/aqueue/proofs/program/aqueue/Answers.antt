@@ -1,7 +1,7 @@
 use Rattle.std.proofs.Common.{◌≡◌, ℕ, ◌≤◌, true, List, [], ◌∷◌, length, subst}
 use Rattle.aq_base.specs.declared.simple.SimpleScript.{SimpleScript}
 use Rattle.aq_causes.specs.Counts.{Rose}
-use Rattle.aq_parse.specs.Reading.{Reads, HasNoReading}
+use Rattle.aq_narrow.specs.Reading.{Reads, HasNoReading}
 use Rattle.aqueue.specs.Answers.{script_limit, is_one_of}
 use Rattle.aqueue.proofs.Answering.{no_answer_five, refusal_holds, refused_answer, replayed_answer, all_told}
 use Rattle.std.specs.Io.KnownBytes.{Appends}

@@ -1,0 +1,16 @@
+pub mod Terminals
+pub mod Rules
+pub mod Reading
+pub mod Sets
+pub mod Forms
+pub mod Expressions
+pub mod Changes
+pub mod Bodies
+pub mod Transactions
+pub mod Tables
+pub mod Triggers
+pub mod Places
+pub mod Statements
+pub mod Calls
+pub mod Nonterminals
+pub mod Steps

@@ -1,0 +1,9 @@
+use Rattle.std.proofs.Common.{◌≡◌, ◌++◌, length}
+use Rattle.aq_lex.specs.Lexemes.{undoubled, unquoted}
+use Rattle.aq_lex.proofs.value.unquoted.Given as goal
+
+abbrev pub invariant-bytes : goal.invariant-bytes
+invariant-bytes l = l.text.items ++ undoubled l.fn.quote l.rest ≡ unquoted l.fn.quote l.fn.bytes
+
+abbrev pub decreases-bytes : goal.decreases-bytes
+decreases-bytes l = length l.rest

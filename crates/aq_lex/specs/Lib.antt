@@ -1,0 +1,4 @@
+pub mod Tokens
+pub mod Lexing
+pub mod Lexemes
+pub mod Lexed
