@@ -39,16 +39,15 @@ impl<T> List<T> {
         List { items }
     }
 
-    /// The elements as a vector. It takes no memory.
-    pub fn into_vec(self) -> Vec<T>
-        ensures { result.items ≡ self }
+    /// The empty list, with the allocator of this one.
+    pub fn empty_like<U>(&self) -> List<U>
+        ensures { result ≡ [] }
     {
-        let List { items } = self;
-        items
+        List::new(*self.items.allocator())
     }
 
     /// The allocator that the list keeps.
-    pub fn allocator(&self) -> &Global {
+    pub(crate) fn allocator(&self) -> &Global {
         self.items.allocator()
     }
 

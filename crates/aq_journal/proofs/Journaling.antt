@@ -11,10 +11,6 @@ use Rattle.aq_run.proofs.Running.{run_from-push, CanRunFrom-push, GoesByDefault-
 use Rattle.aq_laws.proofs.Default.{have_all_ended-from_none}
 use Rattle.aq_journal.specs.Journals.{Journal, IsJournal, GoesOn, Finishes}
 
--- a session whose number is past the last one is not enabled
-pub is_enabled-past : (st : State) (s : ℕ) → length st.sessions ≤ s → is_enabled st s ≡ false
-is_enabled-past st s past = let none : ltb s (length st.sessions) ≡ false = grind (arith, nat_tests) in rw none refl
-
 pub IsJournal-start : (script : SimpleScript) (st : State) → st ≡ opening (program_of script) → IsJournal script st []
 unfolding run_from CanRunFrom
 IsJournal-start script st start = record { replay = start; can_run = tt }

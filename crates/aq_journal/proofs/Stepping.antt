@@ -39,9 +39,6 @@ runs_of-all (suc n) s = ap (with_step s) (runs_of-all n s) ∙ grows s (suc n) [
 
 -- ---- the texts of the runs, one behind the other
 
-pub step_more : (n s : ℕ) (rest : List ℕ) → replicate n s ++ s ∷ rest ≡ replicate (n + 1) s ++ rest
-step_more n s rest = rw replicate_next (sym (append_assoc (replicate n s) (s ∷ []) rest))
-
 module _ (f : ℕ × ℕ → List ℕ) where
   abbrev pub items_of : List ℕ → List ℕ
   items_of schedule = flat_map f (runs_of schedule)

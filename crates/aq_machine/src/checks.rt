@@ -172,7 +172,7 @@ fn key_in_image(cols: &List<ColNo>, image: &Option<Row>) -> Result<Key, NoMemory
     ensures { IfOk result (λ key. key ≡ key_in cols.now image.now) }
 {
     match image {
-        None => key_of(&List::new(*cols.allocator()), &[]),
+        None => key_of(&cols.empty_like(), &[]),
         Some(values) => key_of(values, cols.as_slice()),
     }
 }
