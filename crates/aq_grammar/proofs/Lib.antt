@@ -15,7 +15,12 @@ pub mod RightRules
 pub mod Fixpoint
 pub mod Fuel
 pub mod Called
+pub mod Pairs
 pub mod Fit
 pub mod Some
 pub mod Grammar
+pub mod Shorter
 pub mod Loops
+pub mod Worked
+pub mod PairsFit
+pub mod Tokens

@@ -5,11 +5,11 @@
 --     delete    = DELETE FROM table [WHERE expression]
 --     select    = SELECT (* | columns) FROM table [WHERE expression] [FOR (UPDATE | NO KEY UPDATE | SHARE | KEY SHARE)]
 --     set       = SET CONSTRAINTS (ALL | constraint {, constraint}) (DEFERRED | IMMEDIATE)
-use Rattle.std.specs.Prelude.{ℕ, List, [], ◌∷◌, ◌++◌, Option, Some, None, codes}
+use Rattle.std.specs.Prelude.{List, [], ◌∷◌, Option, codes}
 use Rattle.aq_base.specs.Names.{Text as Bytes}
 use Rattle.aq_lex.specs.declared.token.Symbol.TheVariants.{OpenParen, Comma, Times, Equal}
-use Rattle.aq_grammar.specs.Terminals.{Terminal, Keyword, Sign}
-use Rattle.aq_grammar.specs.Rules.{Rule, Refusal, Done, Both, Either, Unless}
+use Rattle.aq_grammar.specs.Terminals.{Keyword, Sign}
+use Rattle.aq_grammar.specs.Rules.{Rule, Refusal, Both, Either, Unless}
 use Rattle.aq_grammar.specs.declared.scope.Scope.{Scope}
 use Rattle.aq_grammar.specs.Forms.{word, sign, ◌▸◌, ◌◂◌, mapped, nothing, says, optional, listed, in_parentheses, name, names, public_name, refuse, refuse_word}
 use Rattle.aq_grammar.specs.Expressions.{whole_expression}
@@ -89,7 +89,7 @@ unfoldable pub update : Scope → Rule Update
 update scope =
     word (codes "update")
     ▸ end_without (returning ∷ [])
-      (Both update_of public_name (word (codes "set") ▸ Both (λ assignments condition. (assignments, condition)) (listed (assignment scope)) (where_part scope)))
+    (Both update_of public_name (word (codes "set") ▸ Both (λ assignments condition. (assignments, condition)) (listed (assignment scope)) (where_part scope)))
 
 abbrev pub delete_of : Bytes × Option Expr → Delete
 delete_of (table, condition) = record { table = table; condition = condition }
@@ -120,7 +120,7 @@ unfoldable pub select : Scope → Rule Select
 select scope =
     word (codes "select")
     ▸ Both select_of columns
-      (word (codes "from") ▸ Both (λ table others. (table, others)) public_name (Unless joins (Both (λ condition lock. (condition, lock)) (where_part scope) lock)))
+    (word (codes "from") ▸ Both (λ table others. (table, others)) public_name (Unless joins (Both (λ condition lock. (condition, lock)) (where_part scope) lock)))
 
 unfoldable pub constraints : Rule Constraints
 constraints = Either (Keyword (codes "all") ∷ []) (says (codes "all") All_constraints) (mapped Named_constraints (listed public_name))

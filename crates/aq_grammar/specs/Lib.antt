@@ -2,6 +2,7 @@ pub mod Terminals
 pub mod Rules
 pub mod Reading
 pub mod Sets
+pub mod Pairs
 pub mod Forms
 pub mod Expressions
 pub mod Changes
@@ -14,3 +15,4 @@ pub mod Statements
 pub mod Calls
 pub mod Nonterminals
 pub mod Steps
+pub mod Shorter

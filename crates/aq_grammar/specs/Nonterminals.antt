@@ -1,13 +1,13 @@
 -- The rules that lead back to themselves, and the tokens with which they begin and go on.
-use Rattle.std.specs.Prelude.{ℕ, zero, suc, Bool, true, false, List, [], ◌∷◌, ◌++◌, codes}
-use Rattle.aq_lex.specs.declared.token.Symbol.TheVariants.{OpenParen, Dot}
-use Rattle.aq_grammar.specs.Terminals.{Terminal, Keyword, Sign}
+use Rattle.std.specs.Prelude.{Bool, true, false, List, [], ◌∷◌, codes}
+use Rattle.aq_lex.specs.declared.token.Symbol.TheVariants.{OpenParen, CloseParen, Semicolon, Dot}
+use Rattle.aq_grammar.specs.Terminals.{Terminal, Keyword, Name, NameOf, NameBut, Number, Literal, Sign}
 use Rattle.aq_grammar.specs.Rules.{Nonterminal, ValueOf, Rule, Expression, Block, ColumnConstraints, ReferenceEnd}
 use Rattle.aq_grammar.specs.Rules.{Form, Bar, SpellsBy, BarsBy}
 use Rattle.aq_grammar.specs.Reading.{Reader, read_by}
 use Rattle.aq_grammar.specs.Calls.{Called, BarsCalled, called}
 use Rattle.aq_grammar.specs.Sets.{Marks, marks_by}
-use Rattle.aq_grammar.specs.Expressions.{expression}
+use Rattle.aq_grammar.specs.Expressions.{literal_in, expression}
 use Rattle.aq_grammar.specs.Bodies.{block}
 use Rattle.aq_grammar.specs.Tables.{column_constraints, reference_end}
 
@@ -39,7 +39,11 @@ called_marks (Expression scope) = record { begins = []; goes_on = []; opens = []
 called_marks (Block room) = record { begins = []; goes_on = []; opens = []; is_empty = true; is_plain = false; is_guarded = true }
 called_marks (ColumnConstraints has_default) =
     record {
-      begins = constraint_begins has_default; goes_on = behind_constraint; opens = refused_behind_constraint; is_empty = true; is_plain = false;
+      begins = constraint_begins has_default;
+      goes_on = behind_constraint;
+      opens = refused_behind_constraint;
+      is_empty = true;
+      is_plain = false;
       is_guarded = true;
     }
 called_marks (ReferenceEnd has_default) =
@@ -47,6 +51,27 @@ called_marks (ReferenceEnd has_default) =
 
 unfoldable pub marks : Nonterminal → Marks
 marks nonterminal = marks_by called_marks (rules nonterminal)
+
+-- a token that may end an expression
+abbrev pub expression_ends : Terminal → List Terminal
+expression_ends literal =
+    Number ∷ literal ∷ Keyword (codes "null") ∷ Keyword (codes "true") ∷ Keyword (codes "false") ∷ Sign CloseParen ∷ Keyword (codes "tg_op") ∷ Name
+    ∷ NameOf (codes "public") ∷ NameBut (codes "public") ∷ []
+
+-- a token that may end a constraint of a column, or one of those behind it
+abbrev pub constraint_ends : List Terminal
+constraint_ends =
+    Keyword (codes "null") ∷ Keyword (codes "true") ∷ Keyword (codes "false") ∷ Literal ∷ Number ∷ Keyword (codes "key") ∷ Keyword (codes "unique") ∷ Name
+    ∷ NameOf (codes "public") ∷ NameBut (codes "public") ∷ Sign CloseParen ∷ Keyword (codes "simple") ∷ Keyword (codes "full") ∷ Keyword (codes "action")
+    ∷ Keyword (codes "restrict") ∷ Keyword (codes "cascade") ∷ Keyword (codes "default") ∷ Keyword (codes "deferrable") ∷ Keyword (codes "immediate")
+    ∷ Keyword (codes "deferred") ∷ []
+
+-- a token that may end what a rule spells that leads back to itself
+unfoldable pub ends : Nonterminal → List Terminal
+ends (Expression scope) = expression_ends (literal_in scope)
+ends (Block room) = Sign Semicolon ∷ []
+ends (ColumnConstraints has_default) = constraint_ends
+ends (ReferenceEnd has_default) = constraint_ends
 
 -- what is read by a rule that leads back to itself
 unfoldable pub reads_called : (nonterminal : Nonterminal) → Reader (ValueOf nonterminal)

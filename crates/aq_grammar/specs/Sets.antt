@@ -1,5 +1,5 @@
 -- With which tokens a rule begins and goes on, and that one token of lookahead is enough to read it (an LL(1) grammar).
-use Rattle.std.specs.Prelude.{ℕ, Bool, true, false, not, ◌&&◌, ◌||◌, ◌==◌, List, [], ◌∷◌, ◌++◌, if◌then◌else◌, nat_le}
+use Rattle.std.specs.Prelude.{Bool, true, false, not, ◌&&◌, ◌||◌, List, [], ◌∷◌, ◌++◌, if◌then◌else◌, nat_le}
 use Rattle.std.specs.List.{list_all}
 use Rattle.aq_base.specs.Names.{Text as Bytes, same_text, is_short}
 use Rattle.aq_lex.specs.declared.token.Symbol.{Symbol}
@@ -236,7 +236,11 @@ of_either a b =
 abbrev pub of_many : List Refusal → Marks → Marks
 of_many refusals a =
     record {
-      begins = a.begins; goes_on = a.begins ++ a.goes_on; opens = heads refusals; is_empty = true; is_plain = a.is_plain && no_refusals refusals;
+      begins = a.begins;
+      goes_on = a.begins ++ a.goes_on;
+      opens = heads refusals;
+      is_empty = true;
+      is_plain = a.is_plain && no_refusals refusals;
       is_guarded = a.is_guarded;
     }
 

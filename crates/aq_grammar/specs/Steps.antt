@@ -1,12 +1,17 @@
 -- What a function of the parser returned, against what is read by a rule.
-use Rattle.std.specs.Prelude.{◌≡◌, ℕ, List, length, Result, Ok, Err}
-use Rattle.aq_lex.specs.Lexemes.{PlacedLexeme}
-use Rattle.std.specs.Prelude.{[], ◌∷◌}
+use Rattle.std.specs.Prelude.{◌≡◌, ℕ, Bool, true, false, List, [], ◌∷◌, length, drop, Option, Some, None, Result, Ok, Err, if◌then◌else◌}
+use Rattle.aq_base.specs.Names.{Text as Bytes}
+use Rattle.aq_base.specs.declared.expr.Expr.{Expr}
+use Rattle.aq_base.specs.declared.fault.SqlFault.{SqlFault}
+use Rattle.aq_lex.specs.Lexemes.{PlacedLexeme, first_text}
 use Rattle.aq_lex.specs.declared.token.Symbol.TheVariants.{Comma}
-use Rattle.aq_grammar.specs.Terminals.{Sign}
+use Rattle.aq_grammar.specs.Terminals.{Terminal, Sign, Count, begins, fits, number_of}
+use Rattle.aq_grammar.specs.Rules.{Refusal}
+use Rattle.aq_grammar.specs.Expressions.{from_left}
 use Rattle.aq_grammar.specs.Forms.{sign}
 use Rattle.aq_grammar.specs.Nonterminals.{reads}
-use Rattle.aq_grammar.specs.Reading.{Outcome, Read, Stop, Reader, read_both, read_many, Syntax as Syntax_, Refused as Refused_}
+use Rattle.aq_grammar.specs.Rules.{refused}
+use Rattle.aq_grammar.specs.Reading.{Outcome, Read, Stop, Reader, ◌>>=◌, read_both, read_many, Syntax as Syntax_, Refused as Refused_}
 use Rattle.aq_grammar.specs.declared.fault.ReadFault.{ReadFault}
 use Rattle.aq_grammar.specs.declared.fault.ReadFault.TheVariants.{NoMemory, Syntax, Refused}
 
@@ -29,3 +34,43 @@ read_next reader tokens = read_both (λ x y. y) (reads (sign Comma)) (λ x. read
 unfoldable pub read_listed : {A : Type 0} → Reader A → Reader (List A)
 read_listed reader tokens =
     read_both (λ x others. x ∷ others) reader (λ x. read_many (Sign Comma ∷ []) [] (λ others. others) (read_next reader)) tokens
+
+-- operators with their right operands, as many as stand there, behind a first operand and from the left
+abbrev pub read_chain : {A : Type 0} → (Expr → A → Expr) → List Terminal → Reader A → Expr → Reader Expr
+read_chain joined kinds reader first tokens = read_many kinds [] (λ others. others) reader tokens >>= λ others rest. Read (from_left joined first others) rest
+
+-- the text of the first token, where it is of a kind
+abbrev pub first_text_of : Terminal → List PlacedLexeme → Option Bytes
+first_text_of kind tokens = if begins (kind ∷ []) tokens then first_text tokens else None
+
+-- the number of the first token, where it is one that isn't 0
+abbrev pub first_count : List PlacedLexeme → Option ℕ
+first_count [] = None
+first_count (token ∷ tokens) = if fits Count token then Some (number_of token) else None
+
+-- a text and the tokens behind the first
+abbrev pub text_then : Option Bytes → Reader Bytes
+text_then None tokens = Stop Syntax_ tokens
+text_then (Some text) tokens = Read text (drop 1 tokens)
+
+-- the text of the first token is read, where the token has passed a test
+abbrev pub read_text : Bool → Reader Bytes
+read_text false tokens = Stop Syntax_ tokens
+read_text true tokens = text_then (first_text tokens) tokens
+
+-- the tokens are refused where they begin, unless memory ran out
+abbrev pub IsFaultOr : SqlFault → List PlacedLexeme → ReadFault → Type 0
+IsFaultOr fault tokens NoMemory = Unit {0}
+IsFaultOr fault tokens (Syntax left) = ⊥
+IsFaultOr fault tokens (Refused left said) = (left ≡ length tokens) × (said ≡ fault)
+
+-- a fault but want of memory is the refusal that begins the tokens
+abbrev pub IsRefusalOf : List Refusal → List PlacedLexeme → ReadFault → Type 0
+IsRefusalOf refusals tokens NoMemory = Unit {0}
+IsRefusalOf refusals tokens (Syntax left) = ⊥
+IsRefusalOf refusals tokens (Refused left said) = (left ≡ length tokens) × (refused refusals tokens ≡ Some said)
+
+-- a function returns where none of the refusals begins the tokens, and otherwise the first that does, unless memory ran out
+unfoldable pub RefusesSo : List Refusal → Result (Unit {0}) ReadFault → List PlacedLexeme → Type 0
+RefusesSo refusals (Ok x) tokens = refused refusals tokens ≡ None
+RefusesSo refusals (Err fault) tokens = IsRefusalOf refusals tokens fault

@@ -10,15 +10,15 @@
 --     timing     = NOT DEFERRABLE [INITIALLY IMMEDIATE] | DEFERRABLE [INITIALLY (IMMEDIATE | DEFERRED)] | INITIALLY (IMMEDIATE | DEFERRED)
 -- A column's NOT behind its REFERENCES begins NOT NULL or NOT DEFERRABLE. So that the next token always tells how to go on, what comes
 -- behind a column's constraint is one form: the timing and the constraints that follow.
-use Rattle.std.specs.Prelude.{ℕ, zero, suc, ℤ, pos, negsuc, Bool, true, false, List, [], ◌∷◌, ◌++◌, Option, Some, None, codes}
+use Rattle.std.specs.Prelude.{ℕ, zero, suc, ℤ, pos, negsuc, Bool, true, false, List, [], ◌∷◌, Option, Some, None, codes}
 use Rattle.aq_base.specs.Names.{Text as Bytes}
 use Rattle.aq_base.specs.declared.catalog.Decl.{Decl}
 use Rattle.aq_base.specs.declared.value.Value.{Value}
 use Rattle.aq_base.specs.declared.value.Value.TheVariants.{Null, Bool as Truth, Int, Text as Words}
-use Rattle.aq_lex.specs.declared.token.Symbol.TheVariants.{OpenParen, CloseParen, Minus}
-use Rattle.aq_grammar.specs.Terminals.{Terminal, Keyword, NameOf, Name, Number, Literal, Sign, text_of, number_of}
+use Rattle.aq_lex.specs.declared.token.Symbol.TheVariants.{OpenParen, Minus}
+use Rattle.aq_grammar.specs.Terminals.{Keyword, Number, Literal, Sign, text_of, number_of}
 use Rattle.aq_grammar.specs.Rules.{Rule, Refusal, Done, Token, Both, Either, Call, Unless, ColumnConstraints, ReferenceEnd}
-use Rattle.aq_grammar.specs.Forms.{word, sign, ◌▸◌, ◌◂◌, mapped, says, optional, listed, in_parentheses, name, names, public_name, refuse, refuse_word}
+use Rattle.aq_grammar.specs.Forms.{word, sign, ◌▸◌, mapped, says, optional, listed, in_parentheses, name, names, public_name, refuse, refuse_word}
 use Rattle.aq_grammar.specs.Changes.{column_list, end_without}
 use Rattle.aq_base.specs.declared.script.Kind.{Kind}
 use Rattle.aq_base.specs.declared.constraint.Match.{Match}
@@ -142,7 +142,7 @@ actions =
     Either (Keyword (codes "on") ∷ [])
     (word (codes "on")
     ▸ Either (Keyword (codes "delete") ∷ []) (word (codes "delete") ▸ Both (λ on_delete on_update. (on_delete, on_update)) action (action_on (codes "update")))
-      (word (codes "update") ▸ Both (λ on_update on_delete. (on_delete, on_update)) action (action_on (codes "delete"))))
+    (word (codes "update") ▸ Both (λ on_update on_delete. (on_delete, on_update)) action (action_on (codes "delete"))))
     (Done (NoAction, NoAction))
 
 -- a reference without its timing
@@ -163,7 +163,12 @@ target =
 abbrev pub reference_of : Target → Decl → Reference
 reference_of target timing =
     record {
-      table = target.table; columns = target.columns; matching = target.matching; on_delete = target.actions.0; on_update = target.actions.1; timing = timing;
+      table = target.table;
+      columns = target.columns;
+      matching = target.matching;
+      on_delete = target.actions.0;
+      on_update = target.actions.1;
+      timing = timing;
     }
 
 abbrev pub constraint_name : Rule Bytes
@@ -220,7 +225,7 @@ reference_end has_default =
     (Either (Keyword (codes "not") ∷ [])
     (word (codes "not")
     ▸ Either (Keyword (codes "null") ∷ []) (mapped (with_timing (decl false false)) (not_null has_default))
-      (word (codes "deferrable") ▸ behind_timing behind_not_deferrable has_default))
+    (word (codes "deferrable") ▸ behind_timing behind_not_deferrable has_default))
     (Either (Keyword (codes "deferrable") ∷ []) (word (codes "deferrable") ▸ behind_timing behind_deferrable has_default)
     (Either (Keyword (codes "initially") ∷ []) (behind_timing initially_alone has_default)
     (mapped (with_timing (decl false false)) (other_column_constraints has_default)))))

@@ -10,7 +10,7 @@ use Rattle.std.specs.Prelude.{List, [], ◌∷◌, Option, Some, None, codes}
 use Rattle.aq_base.specs.Names.{Text as Bytes}
 use Rattle.aq_base.specs.declared.catalog.Decl.{Decl}
 use Rattle.aq_lex.specs.declared.token.Symbol.TheVariants.{OpenParen, CloseParen}
-use Rattle.aq_grammar.specs.Terminals.{Terminal, Keyword}
+use Rattle.aq_grammar.specs.Terminals.{Keyword}
 use Rattle.aq_grammar.specs.Rules.{Rule, Refusal, Done, Both, Either, Differing, Unless}
 use Rattle.aq_grammar.specs.declared.scope.Scope.TheVariants.{InCondition}
 use Rattle.aq_grammar.specs.Forms.{word, sign, ◌▸◌, ◌◂◌, mapped, says, optional, in_parentheses, name, names, public_name, refuse_word}
@@ -18,7 +18,6 @@ use Rattle.aq_grammar.specs.Expressions.{whole_expression}
 use Rattle.aq_grammar.specs.Bodies.{code}
 use Rattle.aq_grammar.specs.Tables.{timing_without}
 use Rattle.aq_base.specs.declared.expr.Expr.{Expr}
-use Rattle.aq_base.specs.declared.body.BodyStatement.{BodyStatement}
 use Rattle.aq_base.specs.declared.trigger.TriggerEvent.{TriggerEvent}
 use Rattle.aq_base.specs.declared.trigger.Transition.{Transition}
 use Rattle.aq_base.specs.declared.trigger.TransitionTable.{TransitionTable}
@@ -40,7 +39,7 @@ unfoldable pub create_function : Rule Statement
 create_function =
     word (codes "function")
     ▸ Both (λ name body. CreateFunction (record { name = name; body = body })) (public_name ◂ no_arguments ◂ word (codes "returns") ◂ word (codes "trigger"))
-      (Either (Keyword (codes "language") ∷ []) (language ▸ word (codes "as") ▸ code) (word (codes "as") ▸ code ◂ language))
+    (Either (Keyword (codes "language") ∷ []) (language ▸ word (codes "as") ▸ code) (word (codes "as") ▸ code ◂ language))
 
 unfoldable pub insert_event : Rule TriggerEvent
 insert_event = says (codes "insert") On_insert
@@ -133,25 +132,36 @@ fired = Both (λ condition function. record { condition = condition; function = 
 abbrev pub trigger_of : Bytes → Watched × (Option (List TransitionTable) × (Each × Fired)) → Statement
 trigger_of name (watched, (transitions, (each, fired))) =
     CreateTrigger (record {
-      name = name; events = watched.events; table = watched.table; transitions = transitions; each = each; condition = fired.condition; function = fired.function;
+      name = name;
+      events = watched.events;
+      table = watched.table;
+      transitions = transitions;
+      each = each;
+      condition = fired.condition;
+      function = fired.function;
     })
 
 unfoldable pub create_trigger : Rule Statement
 create_trigger =
     word (codes "trigger")
     ▸ Both trigger_of name
-      (Both (λ watched others. (watched, others)) watched
-      (Both (λ transitions others. (transitions, others)) referencing (Both (λ each fired. (each, fired)) fires_for fired)))
+    (Both (λ watched others. (watched, others)) watched
+    (Both (λ transitions others. (transitions, others)) referencing (Both (λ each fired. (each, fired)) fires_for fired)))
 
 abbrev pub constraint_trigger_of : Bytes → Watched × (Decl × Fired) → Statement
 constraint_trigger_of name (watched, (timing, fired)) =
     CreateConstraintTrigger (record {
-      name = name; events = watched.events; table = watched.table; timing = timing; condition = fired.condition; function = fired.function;
+      name = name;
+      events = watched.events;
+      table = watched.table;
+      timing = timing;
+      condition = fired.condition;
+      function = fired.function;
     })
 
 unfoldable pub create_constraint_trigger : Rule Statement
 create_constraint_trigger =
     word (codes "constraint") ▸ word (codes "trigger")
     ▸ Both constraint_trigger_of name
-      (Both (λ watched others. (watched, others)) watched
-      (Both (λ timing fired. (timing, fired)) (timing_without []) (for_each (word (codes "row")) ▸ fired)))
+    (Both (λ watched others. (watched, others)) watched
+    (Both (λ timing fired. (timing, fired)) (timing_without []) (for_each (word (codes "row")) ▸ fired)))

@@ -2,12 +2,24 @@
 //! The rules are definitions, in `specs/`. The code reads single tokens, and forms one after the other.
 #![tactic(auto)]
 
+mod chaining;
 mod fault;
 mod listing;
+mod naming;
+mod prefixes;
+mod repeating;
 mod scope;
 mod terminals;
 
+pub use chaining::{Operator, chain};
 pub use fault::ReadFault;
 pub use listing::{Form, listed};
+pub use naming::names;
+pub use prefixes::{behind_nots, behind_signs, nots, signs};
+pub use repeating::{Repeated, many};
 pub use scope::Scope;
-pub use terminals::{Read, is_name, is_symbol, is_word, sign, word};
+pub use terminals::{
+    Read, are_words, count, heading, is_heading, is_literal, is_name, is_name_of, is_number,
+    is_one_of, is_one_of_signs, is_symbol, is_word, literal, message, name, name_but, name_of,
+    number, plain_name, public_name, sign, word,
+};

@@ -1,7 +1,6 @@
 //! Forms one after the other, with commas between them.
 
-ghost use Rattle.std.specs.Prelude.{◌≡◌, ◌∷◌, [], ◌<◌, length};
-ghost use Rattle.aq_grammar.specs.Reading.{Read};
+ghost use Rattle.std.specs.Prelude.{◌≡◌};
 ghost use Rattle.aq_grammar.specs.Steps.{Gives, read_listed};
 
 use crate::terminals::{Read, is_symbol, sign};
@@ -9,22 +8,22 @@ use aq_base::List;
 use aq_lex::{Lexed, Symbol};
 use std::alloc::Global;
 
-/// A form that can be read.
+/// A form that can be read. It is never empty.
 pub trait Form {
-    ghost use Rattle.std.specs.Prelude.{List};
+    ghost use Rattle.std.specs.Prelude.{◌≡◌, ◌<◌, List, length};
     ghost use Rattle.aq_lex.specs.Lexemes.{PlacedLexeme};
-    ghost use Rattle.aq_grammar.specs.Reading.{Outcome};
+    ghost use Rattle.aq_grammar.specs.Reading.{Outcome, Read};
 
     /// What it stands for.
     type Tree: Drop;
 
     ghost reading: { Self → List PlacedLexeme → Outcome Self.Tree };
 
-    ghost shortens: { (form : Self) (tokens rest : List PlacedLexeme) (x : Self.Tree) → reading form tokens ≡ Read x rest → length rest < length tokens };
-
     /// Reads the form.
     fn read<'a>(&self, tokens: &Lexed<'a>) -> Read<'a, Self::Tree>
         ensures { Gives (λ x. x) result (reading self.now tokens.now) };
+
+    ghost shortens: { (form : Self) (tokens rest : List PlacedLexeme) (x : Self.Tree) → reading form tokens ≡ Read x rest → length rest < length tokens };
 }
 
 /// At least one, with commas between them.

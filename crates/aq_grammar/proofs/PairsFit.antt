@@ -1,0 +1,122 @@
+-- No subquery stands in a statement of a script: in no rule of the grammar may a `(` be met by SELECT.
+use Rattle.std.proofs.Common.{◌≡◌, refl, ℕ, zero, suc, Bool, true, false, List, [], ◌∷◌, ◌++◌}
+use Rattle.std.proofs.lemmas.Bool.{or_left}
+use Rattle.aq_base.specs.declared.statement.Statement.{Statement}
+use Rattle.aq_lex.specs.declared.token.Symbol.TheVariants.{OpenParen}
+use Rattle.aq_lex.specs.Lexemes.{PlacedLexeme}
+use Rattle.aq_grammar.specs.Terminals.{Sign, fits, is_of}
+use Rattle.aq_grammar.specs.Rules.{Nonterminal, Rule, Begins, Expression, Block, ColumnConstraints, ReferenceEnd}
+use Rattle.aq_grammar.specs.declared.scope.Scope.{Scope}
+use Rattle.aq_grammar.specs.declared.scope.Scope.TheVariants.{InStatement, InCondition, InCode}
+use Rattle.aq_grammar.specs.Sets.{is_fit_by, are_apart}
+use Rattle.aq_grammar.specs.Pairs.{HasSubquery, ends_by, has_no_subquery_by}
+use Rattle.aq_grammar.specs.Nonterminals.{rules, marks, ends, Spells}
+use Rattle.aq_grammar.proofs.Apart.{are_apart_sound}
+use Rattle.aq_grammar.proofs.Fit.{are_among, are_among_sound, rules_fit, session_statement_fits, setup_statement_fits}
+use Rattle.aq_grammar.proofs.Pairs.{subquery_of_beginning, ended_rule, no_subquery_rule}
+use Rattle.aq_grammar.specs.Forms.{name, names, public_name}
+use Rattle.aq_grammar.specs.Expressions as e
+use Rattle.aq_grammar.specs.Changes as c
+use Rattle.aq_grammar.specs.Bodies as b
+use Rattle.aq_grammar.specs.Transactions as t
+use Rattle.aq_grammar.specs.Tables as k
+use Rattle.aq_grammar.specs.Triggers as g
+use Rattle.aq_grammar.specs.Statements.{supported_in_setup, supported_in_session, setup_statement, session_statement, created, block_statement}
+
+-- 1. The rules that lead back to themselves end with their ends, and have no subquery.
+ended_expression : (scope : Scope) → are_among (ends (Expression scope)) (ends_by ends marks (rules (Expression scope))) ≡ true
+unfolding ends marks rules e.expression e.conjunction e.negation e.test e.is_test e.comparison e.comparison_sign e.sum e.summand e.product e.signed e.atom e.column name
+ended_expression InStatement = refl
+ended_expression InCondition = refl
+ended_expression InCode = refl
+
+ended_block : (room : ℕ) → are_among (ends (Block room)) (ends_by ends marks (rules (Block room))) ≡ true
+unfolding ends marks rules b.block b.body_statement b.if_statement b.else_if b.otherwise b.raise b.return_ e.whole_expression e.expression e.conjunction e.negation e.test e.is_test e.comparison e.comparison_sign e.sum e.summand e.product e.signed e.atom e.column name names public_name c.insert c.update c.delete c.set_constraints c.where_part c.given c.row_values c.from_table c.source c.column_list c.assignment c.constraints c.constraint_mode
+ended_block zero = refl
+ended_block (suc room) = refl
+
+ended_constraints : (d : Bool) → are_among (ends (ColumnConstraints d)) (ends_by ends marks (rules (ColumnConstraints d))) ≡ true
+unfolding ends marks rules k.column_constraints k.other_column_constraints k.named_constraint k.not_null k.constant k.target k.matching k.actions k.action public_name name names k.reference_end c.column_list k.behind_deferrable k.behind_not_deferrable k.initially_alone k.initially
+ended_constraints true = refl
+ended_constraints false = refl
+
+ended_reference_end : (d : Bool) → are_among (ends (ReferenceEnd d)) (ends_by ends marks (rules (ReferenceEnd d))) ≡ true
+unfolding ends marks rules k.column_constraints k.other_column_constraints k.named_constraint k.not_null k.constant k.target k.matching k.actions k.action public_name name names k.reference_end c.column_list k.behind_deferrable k.behind_not_deferrable k.initially_alone k.initially
+ended_reference_end true = refl
+ended_reference_end false = refl
+
+ended_rules : (n : Nonterminal) → are_among (ends n) (ends_by ends marks (rules n)) ≡ true
+ended_rules (Expression scope) = ended_expression scope
+ended_rules (Block room) = ended_block room
+ended_rules (ColumnConstraints has_default) = ended_constraints has_default
+ended_rules (ReferenceEnd has_default) = ended_reference_end has_default
+
+free_expression : (scope : Scope) → has_no_subquery_by ends marks (rules (Expression scope)) ≡ true
+unfolding ends marks rules e.expression e.conjunction e.negation e.test e.is_test e.comparison e.comparison_sign e.sum e.summand e.product e.signed e.atom e.column name
+free_expression InStatement = refl
+free_expression InCondition = refl
+free_expression InCode = refl
+
+free_block : (room : ℕ) → has_no_subquery_by ends marks (rules (Block room)) ≡ true
+unfolding ends marks rules b.block b.body_statement b.if_statement b.else_if b.otherwise b.raise b.return_ e.whole_expression e.expression e.conjunction e.negation e.test e.is_test e.comparison e.comparison_sign e.sum e.summand e.product e.signed e.atom e.column name names public_name c.insert c.update c.delete c.set_constraints c.where_part c.given c.row_values c.from_table c.source c.column_list c.assignment c.constraints c.constraint_mode
+free_block zero = refl
+free_block (suc room) = refl
+
+free_constraints : (d : Bool) → has_no_subquery_by ends marks (rules (ColumnConstraints d)) ≡ true
+unfolding ends marks rules k.column_constraints k.other_column_constraints k.named_constraint k.not_null k.constant k.target k.matching k.actions k.action public_name name names k.reference_end c.column_list k.behind_deferrable k.behind_not_deferrable k.initially_alone k.initially
+free_constraints true = refl
+free_constraints false = refl
+
+free_reference_end : (d : Bool) → has_no_subquery_by ends marks (rules (ReferenceEnd d)) ≡ true
+unfolding ends marks rules k.column_constraints k.other_column_constraints k.named_constraint k.not_null k.constant k.target k.matching k.actions k.action public_name name names k.reference_end c.column_list k.behind_deferrable k.behind_not_deferrable k.initially_alone k.initially
+free_reference_end true = refl
+free_reference_end false = refl
+
+free_rules : (n : Nonterminal) → has_no_subquery_by ends marks (rules n) ≡ true
+free_rules (Expression scope) = free_expression scope
+free_rules (Block room) = free_block room
+free_rules (ColumnConstraints has_default) = free_constraints has_default
+free_rules (ReferenceEnd has_default) = free_reference_end has_default
+
+-- 2. Nor have the statements.
+free_session : has_no_subquery_by ends marks session_statement ≡ true
+unfolding ends marks rules session_statement supported_in_session block_statement e.whole_expression e.expression e.conjunction e.negation e.test e.is_test e.comparison e.comparison_sign e.sum e.summand e.product e.signed e.atom e.column name names public_name c.insert c.update c.delete c.select c.columns c.lock c.lock_mode c.set_constraints c.where_part c.given c.row_values c.from_table c.source c.column_list c.assignment c.constraints c.constraint_mode t.work t.isolation_level t.isolation t.begin t.start_transaction t.rollback t.savepoint t.release t.savepoint_name
+free_session = refl
+
+free_setup : has_no_subquery_by ends marks setup_statement ≡ true
+unfolding ends marks rules setup_statement supported_in_setup created b.block b.code b.body_statement b.if_statement b.else_if b.otherwise b.raise b.return_ e.whole_expression e.expression e.conjunction e.negation e.test e.is_test e.comparison e.comparison_sign e.sum e.summand e.product e.signed e.atom e.column name names public_name c.insert c.update c.delete c.set_constraints c.where_part c.given c.row_values c.from_table c.source c.column_list c.assignment c.constraints c.constraint_mode k.create_table k.alter_table k.item k.table_constraint k.bare_table_constraint k.column_item k.kind k.timing_without k.column_constraints k.other_column_constraints k.named_constraint k.not_null k.constant k.target k.matching k.actions k.action k.reference_end k.behind_deferrable k.behind_not_deferrable k.initially_alone k.initially g.no_arguments g.create_function g.insert_event g.delete_event g.update_event g.events g.transition_tables g.referencing g.fires_for g.when_part g.executes g.watched g.fired g.create_trigger g.create_constraint_trigger
+free_setup = refl
+
+session_ends_apart : are_apart (Sign OpenParen ∷ []) (ends_by ends marks session_statement) ≡ true
+unfolding ends marks rules session_statement supported_in_session block_statement e.whole_expression e.expression e.conjunction e.negation e.test e.is_test e.comparison e.comparison_sign e.sum e.summand e.product e.signed e.atom e.column name names public_name c.insert c.update c.delete c.select c.columns c.lock c.lock_mode c.set_constraints c.where_part c.given c.row_values c.from_table c.source c.column_list c.assignment c.constraints c.constraint_mode t.work t.isolation_level t.isolation t.begin t.start_transaction t.rollback t.savepoint t.release t.savepoint_name
+session_ends_apart = refl
+
+setup_ends_apart : are_apart (Sign OpenParen ∷ []) (ends_by ends marks setup_statement) ≡ true
+unfolding ends marks rules setup_statement supported_in_setup created b.block b.code b.body_statement b.if_statement b.else_if b.otherwise b.raise b.return_ e.whole_expression e.expression e.conjunction e.negation e.test e.is_test e.comparison e.comparison_sign e.sum e.summand e.product e.signed e.atom e.column name names public_name c.insert c.update c.delete c.set_constraints c.where_part c.given c.row_values c.from_table c.source c.column_list c.assignment c.constraints c.constraint_mode k.create_table k.alter_table k.item k.table_constraint k.bare_table_constraint k.column_item k.kind k.timing_without k.column_constraints k.other_column_constraints k.named_constraint k.not_null k.constant k.target k.matching k.actions k.action k.reference_end k.behind_deferrable k.behind_not_deferrable k.initially_alone k.initially g.no_arguments g.create_function g.insert_event g.delete_event g.update_event g.events g.transition_tables g.referencing g.fires_for g.when_part g.executes g.watched g.fired g.create_trigger g.create_constraint_trigger
+setup_ends_apart = refl
+
+end_so : (n : Nonterminal) (token : PlacedLexeme) → is_of (ends_by ends marks (rules n)) token ≡ true → is_of (ends n) token ≡ true
+end_so n token = are_among_sound (ends_by ends marks (rules n)) (ends n) token (ended_rules n)
+
+-- 3. So a subquery stands in no beginning of a statement, and no statement ends with a `(`.
+no_subquery : {A : Type 0} (r : Rule A) → is_fit_by marks r ≡ true → has_no_subquery_by ends marks r ≡ true → (u : List PlacedLexeme) → Begins (Spells r) u → HasSubquery u → ⊥
+no_subquery r fit free u (behind, x, spelled) s =
+    no_subquery_rule rules marks ends rules_fit end_so free_rules r fit free x (u ++ behind) spelled (subquery_of_beginning u behind s)
+
+pub no_subquery_in_session : (u : List PlacedLexeme) → Begins (Spells session_statement) u → HasSubquery u → ⊥
+no_subquery_in_session = no_subquery session_statement session_statement_fits free_session
+
+pub no_subquery_in_setup : (u : List PlacedLexeme) → Begins (Spells setup_statement) u → HasSubquery u → ⊥
+no_subquery_in_setup = no_subquery setup_statement setup_statement_fits free_setup
+
+no_paren_ends : {A : Type 0} (r : Rule A) → is_fit_by marks r ≡ true → are_apart (Sign OpenParen ∷ []) (ends_by ends marks r) ≡ true
+    → (x : A) (u : List PlacedLexeme) (token : PlacedLexeme) → Spells r x (u ++ token ∷ []) → fits (Sign OpenParen) token ≡ true → ⊥
+no_paren_ends r fit apart x u token spelled opened =
+    are_apart_sound (Sign OpenParen ∷ []) (ends_by ends marks r) token apart (or_left (fits (Sign OpenParen) token) false opened)
+    (ended_rule rules marks ends rules_fit end_so r fit x u token spelled)
+
+pub session_ends_in_no_paren : (x : Statement) (u : List PlacedLexeme) (token : PlacedLexeme) → Spells session_statement x (u ++ token ∷ []) → fits (Sign OpenParen) token ≡ true → ⊥
+session_ends_in_no_paren = no_paren_ends session_statement session_statement_fits session_ends_apart
+
+pub setup_ends_in_no_paren : (x : Statement) (u : List PlacedLexeme) (token : PlacedLexeme) → Spells setup_statement x (u ++ token ∷ []) → fits (Sign OpenParen) token ≡ true → ⊥
+setup_ends_in_no_paren = no_paren_ends setup_statement setup_statement_fits setup_ends_apart
