@@ -1,12 +1,11 @@
 -- A journal with one step more, and one that goes on to the end.
-use Rattle.std.proofs.Common.{◌≡◌, ℕ, ◌<◌, ◌≤◌, Bool, true, false, not, ◌&&◌, ltb, List, [], ◌∷◌, ◌++◌, length, refl, sym, ap, subst, ◌∙◌, append_assoc, arith}
+use Rattle.std.proofs.Common.{◌≡◌, ℕ, true, false, [], ◌∷◌, ◌++◌, refl, sym, ap, subst, ◌∙◌, append_assoc}
 use Rattle.std.proofs.lemmas.List.{append-nil}
-use Rattle.std.proofs.lemmas.Bool.Decides.{nat_tests}
 use Rattle.aq_base.specs.Setup.{program_of}
 use Rattle.aq_base.specs.declared.simple.SimpleScript.{SimpleScript}
-use Rattle.aq_run.specs.States.{State, opening, session_at}
+use Rattle.aq_run.specs.States.{State, opening}
 use Rattle.aq_run.specs.Steps.{step, is_enabled}
-use Rattle.aq_run.specs.Runs.{Schedule, run, run_from, CanRunFrom, GoesByDefault, IsLeastEnabled, IsComplete, have_all_ended}
+use Rattle.aq_run.specs.Runs.{Schedule, run_from, CanRunFrom, GoesByDefault, IsLeastEnabled, have_all_ended}
 use Rattle.aq_run.proofs.Running.{run_from-push, CanRunFrom-push, GoesByDefault-push}
 use Rattle.aq_laws.proofs.Default.{have_all_ended-from_none}
 use Rattle.aq_journal.specs.Journals.{Journal, IsJournal, GoesOn, Finishes}

@@ -1,4 +1,4 @@
-use Rattle.std.proofs.Common.{◌≡◌, ◌++◌, ◌+◌, ◌≤◌, map, length, List}
+use Rattle.std.proofs.Common.{◌≡◌, ◌++◌, ◌+◌, ◌≤◌, map, length}
 use Rattle.std.specs.Prelude.{replicate}
 use Rattle.aq_run.specs.Texts.{run_item}
 use Rattle.aq_journal.proofs.Stepping.{items_of}

@@ -1,9 +1,9 @@
-use Rattle.std.proofs.Common.{◌≡◌, ℕ, true, false, subst, sym}
+use Rattle.std.proofs.Common.{◌≡◌, ℕ, false, subst}
 use Rattle.aq_base.specs.Setup.{program_of}
 use Rattle.aq_run.specs.Steps.{is_enabled}
 use Rattle.aq_run.specs.Runs.{IsLeastEnabled}
 use Rattle.aq_laws.proofs.Finite.{steps_left-step}
-use Rattle.aq_journal.specs.Journals.{GoesOn, IsJournal}
+use Rattle.aq_journal.specs.Journals.{IsJournal}
 use Rattle.aq_journal.proofs.Journaling.{GoesOn-start, GoesOn-push, Finishes-from_none}
 use Rattle.aq_journal.proofs.shared.Shared.finish.Goals as goal
 

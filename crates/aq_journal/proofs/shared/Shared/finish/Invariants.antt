@@ -1,4 +1,3 @@
-use Rattle.std.proofs.Common.{◌≡◌}
 use Rattle.aq_base.specs.Setup.{program_of}
 use Rattle.aq_laws.specs.Finite.{steps_left}
 use Rattle.aq_journal.specs.Journals.{GoesOn}
