@@ -24,3 +24,8 @@ pub mod Loops
 pub mod Worked
 pub mod PairsFit
 pub mod Tokens
+pub mod Refusing
+pub mod AtEnd
+pub mod RefusedAt
+pub mod Short
+pub mod ShortFit

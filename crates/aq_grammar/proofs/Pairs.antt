@@ -84,7 +84,7 @@ subquery_of_beginning u behind (before, after, line1, line2, e) =
     (before, after ++ behind, line1, line2, ap (λ (v : List PlacedLexeme). v ++ behind) e ∙ append_assoc before _ behind)
 
 -- 2. With its ends a whole form ends.
-ends_nothing : (kinds : List Terminal) → EndSo (λ u. u ≡ []) kinds
+pub ends_nothing : (kinds : List Terminal) → EndSo (λ u. u ≡ []) kinds
 ends_nothing kinds u token e = absurd (no_last u token [] (sym e))
 
 ends_token : {A : Type 0} (kind : Terminal) (f : PlacedLexeme → A) (y : A) → EndSo (SpellsToken kind f y) (kind ∷ [])
@@ -95,12 +95,12 @@ ends_token kind f y (first ∷ u) token (other, fit, is, e) = absurd (no_last u 
 
 module _ {A B C : Type 0} (f : A → B → C) (First : Form A) (Second : A → Form B) (a b : List Terminal) (empty : Bool)
     (ended : (x : A) → EndSo (First x) a) (follows : (x : A) (z : B) → EndSo (Second x z) b) (since : (x : A) (z : B) → Second x z [] → empty ≡ true) where
-  ends_both : (y : C) → EndSo (SpellsBoth f First Second y) (ends_of_both a b empty)
+  pub ends_both : (y : C) → EndSo (SpellsBoth f First Second y) (ends_of_both a b empty)
   ends_both y u token (front, behind, x, z, h, k, e, is) =
       cut_ends (First x) (Second x z) a b front behind h k empty (ended x) (follows x z) (since x z) u token e
 
 module _ {A : Type 0} (Spelled : Form A) (kinds : List Terminal) (ended : (x : A) → EndSo (Spelled x) kinds) where
-  ends_each : (xs : List A) → EndSo (SpellsEach Spelled xs) kinds
+  pub ends_each : (xs : List A) → EndSo (SpellsEach Spelled xs) kinds
   ends_each [] u token h = absurd (no_last u token [] (sym h))
   ends_each (x ∷ others) u token (front, behind, h, k, e) =
       elim (is_of_parts kinds kinds token (cut_ends (Spelled x) (SpellsEach Spelled others) kinds kinds front behind h k true (ended x) (ends_each others) (λ n. refl) u token e)) [
@@ -149,7 +149,7 @@ module _ (calls : (n : Nonterminal) → Form (ValueOf n)) (bars : Nonterminal �
   ended_by (Limited most limit a) fit x u token h = ended_by a (fit_limited marks most limit a fit).0 x u token h
 
 -- 3. No subquery stands in it.
-free_nothing : HaveNoSubquery (λ u. u ≡ [])
+pub free_nothing : HaveNoSubquery (λ u. u ≡ [])
 free_nothing u e h = no_subquery_of_nothing (subst HasSubquery e h)
 
 free_token : {A : Type 0} (kind : Terminal) (f : PlacedLexeme → A) (y : A) → HaveNoSubquery (SpellsToken kind f y)
@@ -158,7 +158,7 @@ free_token kind f y u (token, fit, is, e) h = no_subquery_of_one token (subst Ha
 module _ {A B C : Type 0} (f : A → B → C) (First : Form A) (Second : A → Form B) (a b : List Terminal)
     (ended : (x : A) → EndSo (First x) a) (begun : (x : A) (z : B) → BeginSo (Second x z) b) (fit : opens_none a b ≡ true)
     (free : (x : A) → HaveNoSubquery (First x)) (follows : (x : A) (z : B) → HaveNoSubquery (Second x z)) where
-  free_both : (y : C) → HaveNoSubquery (SpellsBoth f First Second y)
+  pub free_both : (y : C) → HaveNoSubquery (SpellsBoth f First Second y)
   free_both y u (front, behind, x, z, h, k, e, is) s =
       cut_free (First x) (Second x z) a b front behind h k (ended x) (begun x z) fit (free x) (follows x z) (subst HasSubquery e s)
 
@@ -171,7 +171,7 @@ module _ {A : Type 0} (Spelled : Form A) (a b : List Terminal) (begun : (x : A) 
       begun x token front (subst (λ t. Spelled x (t ∷ front)) same h)
 
   module _ (ended : (x : A) → EndSo (Spelled x) a) (fit : opens_none a b ≡ true) (free : (x : A) → HaveNoSubquery (Spelled x)) where
-    free_each : (xs : List A) → HaveNoSubquery (SpellsEach Spelled xs)
+    pub free_each : (xs : List A) → HaveNoSubquery (SpellsEach Spelled xs)
     free_each [] u e h = free_nothing u e h
     free_each (x ∷ others) u (front, behind, h, k, e) s =
         cut_free (Spelled x) (SpellsEach Spelled others) a b front behind h k (ended x) (begins_each others) fit (free x) (free_each others) (subst HasSubquery e s)

@@ -1,7 +1,9 @@
 -- Every rule that leads back to itself spells something.
-use Rattle.std.proofs.Common.{refl, ℕ, zero, Bool, true, false, List, [], ◌∷◌, inl, inr}
+use Rattle.std.proofs.Common.{◌≡◌, refl, ℕ, zero, suc, Bool, true, false, List, [], ◌∷◌, ◌++◌, inl, inr}
 use Rattle.aq_lex.specs.Lexemes.{PlacedLexeme, Integer}
-use Rattle.aq_grammar.specs.Rules.{Nonterminal, ValueOf, Form, Rule, SpellsBy, Expression, Block, ColumnConstraints, ReferenceEnd}
+use Rattle.aq_base.specs.declared.expr.Expr.{Expr}
+use Rattle.aq_base.specs.declared.constraint.ColumnConstraint.{ColumnConstraint}
+use Rattle.aq_grammar.specs.Rules.{Nonterminal, ValueOf, Form, Rule, SpellsBy, SpellsBoth, SpellsMany, Expression, Block, ColumnConstraints, ReferenceEnd}
 use Rattle.aq_grammar.specs.declared.scope.Scope.{Scope}
 use Rattle.aq_grammar.specs.Calls.{Called, CalledWithin}
 use Rattle.aq_grammar.specs.Nonterminals.{rules}
@@ -24,8 +26,8 @@ abbrev alone : List PlacedLexeme
 alone = zero_token ∷ []
 
 spelled_atom : (scope : Scope) → Spelled (e.atom scope) alone
-unfolding e.atom zero_token
-spelled_atom scope = (_, inl (zero_token, refl, refl, refl))
+unfolding e.atom e.plain_atom zero_token
+spelled_atom scope = (_, inr (inl (zero_token, refl, refl, refl)))
 
 spelled_signed : (scope : Scope) → Spelled (e.signed scope) alone
 unfolding e.signed
@@ -65,16 +67,15 @@ spelled_block room = (_, ([], refl, refl))
 
 spelled_others : (has_default : Bool) → Spelled (other_column_constraints has_default) []
 unfolding other_column_constraints
-spelled_others true = (_, inr (inr (refl, refl)))
-spelled_others false = (_, inr (inr (inr (refl, refl))))
+spelled_others has_default = (_, inr (refl, refl))
 
 spelled_constraints : (has_default : Bool) → Spelled (column_constraints has_default) []
 unfolding column_constraints
-spelled_constraints has_default = let a = spelled_others has_default in (a.0, inr a.1)
+spelled_constraints has_default = (_, inr (refl, refl))
 
 spelled_end : (has_default : Bool) → Spelled (reference_end has_default) []
 unfolding reference_end
-spelled_end has_default = let a = spelled_others has_default in (_, inr (inr (inr ([], [], a.0, tt, a.1, (refl, refl), refl, refl))))
+spelled_end has_default = let a = spelled_others has_default in (_, inr (inr ([], [], a.0, tt, a.1, (refl, refl), refl, refl)))
 
 pub spelled : (n : Nonterminal) → IsSpelled (Called rules n)
 unfolding rules none

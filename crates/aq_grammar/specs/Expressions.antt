@@ -6,16 +6,17 @@
 --     product    = signed {* signed}                        signed = {-} atom
 --     atom       = number | text | NULL | TRUE | FALSE | (expression) | column | table.column
 --                | OLD.column | NEW.column in conditions of triggers and in code | TG_OP in code
-use Rattle.std.specs.Prelude.{ℕ, pos, true, false, List, [], ◌∷◌, Option, Some, None, codes}
+use Rattle.std.specs.Prelude.{ℕ, pos, Bool, true, false, List, [], ◌∷◌, Option, Some, None, codes}
 use Rattle.aq_base.specs.Names.{Text as Bytes}
+use Rattle.aq_base.specs.declared.value.Value.{Value}
 use Rattle.aq_base.specs.declared.value.Value.TheVariants.{Null, Bool as Truth, Int, Text as Words}
 use Rattle.aq_lex.specs.declared.token.Symbol.{Symbol}
-use Rattle.aq_lex.specs.declared.token.Symbol.TheVariants.{OpenParen, Dot, Plus, Minus, Times, Equal, Unequal, Less, AtMost, Greater, AtLeast}
-use Rattle.aq_grammar.specs.Terminals.{Terminal, Keyword, NameOf, NameBut, Number, Literal, LiteralInCode, Sign, text_of, number_of}
-use Rattle.aq_grammar.specs.Rules.{Rule, Token, Both, Either, Many, Call, Limited, Expression}
+use Rattle.aq_lex.specs.declared.token.Symbol.TheVariants.{OpenParen, CloseParen, Dot, Plus, Minus, Times, Equal, Unequal, Less, AtMost, Greater, AtLeast}
+use Rattle.aq_grammar.specs.Terminals.{Terminal, Keyword, Name, NameOf, NameBut, Number, Literal, LiteralInCode, Sign, text_of, number_of}
+use Rattle.aq_grammar.specs.Rules.{Rule, Done, Token, Both, Either, Many, Call, Limited, Expression}
 use Rattle.aq_grammar.specs.declared.scope.Scope.{Scope}
 use Rattle.aq_grammar.specs.declared.scope.Scope.TheVariants.{InStatement, InCondition, InCode}
-use Rattle.aq_grammar.specs.Forms.{word, sign, ◌▸◌, mapped, says, optional, in_parentheses, name, limit}
+use Rattle.aq_grammar.specs.Forms.{word, sign, ◌▸◌, ◌◂◌, mapped, says, optional, in_parentheses, name, limit}
 use Rattle.aq_base.specs.declared.expr.Expr.{Expr}
 use Rattle.aq_base.specs.declared.expr.Comparison.{Comparison}
 use Rattle.aq_base.specs.declared.expr.Expr.TheVariants.{Constant, Column, Qualified, Old, New, Operation, Negate, Multiply, Add, Subtract, Compare, IsNull, IsNotNull, IsDistinct, IsNotDistinct, Not, And, Or}
@@ -41,46 +42,52 @@ column_of_public first (Some (second, third)) = qualified first second third
     qualified first second None = Qualified first second
     qualified first second (Some third) = Qualified second third
 
-abbrev pub behind_dot : Rule (Option Bytes)
+unfoldable pub behind_dot : Rule (Option Bytes)
 behind_dot = optional (Sign Dot ∷ []) (sign Dot ▸ name)
+
+unfoldable pub behind_public : Rule (Option (Bytes × Option Bytes))
+behind_public = optional (Sign Dot ∷ []) (sign Dot ▸ Both (λ x y. (x, y)) name behind_dot)
 
 unfoldable pub column : Rule Expr
 column =
     Either (NameOf (codes "public") ∷ [])
-    (Both column_of_public (Token (NameOf (codes "public")) text_of) (optional (Sign Dot ∷ []) (sign Dot ▸ Both (λ x y. (x, y)) name behind_dot)))
+    (Both column_of_public (Token (NameOf (codes "public")) text_of) behind_public)
     (Both column_or_qualified (Token (NameBut (codes "public")) text_of) behind_dot)
 
 -- `TG_OP`
-abbrev pub operation_or : Scope → Rule Expr → Rule Expr
-operation_or InStatement others = others
-operation_or InCondition others = others
-operation_or InCode others = Either (Keyword (codes "tg_op") ∷ []) (says (codes "tg_op") Operation) others
+unfoldable pub operation_or_column : Rule Expr
+operation_or_column = Either (Keyword (codes "tg_op") ∷ []) (says (codes "tg_op") Operation) column
 
 -- `OLD.column`, `NEW.column`
-abbrev pub row_or : Scope → Rule Expr → Rule Expr
-row_or InStatement others = others
-row_or InCondition others = rows_or others
-  where
-    rows_or : Rule Expr → Rule Expr
-    rows_or others =
-        Either (Keyword (codes "old") ∷ []) (word (codes "old") ▸ sign Dot ▸ mapped Old name)
-        (Either (Keyword (codes "new") ∷ []) (word (codes "new") ▸ sign Dot ▸ mapped New name) others)
-row_or InCode others = rows_or others
-  where
-    rows_or : Rule Expr → Rule Expr
-    rows_or others =
-        Either (Keyword (codes "old") ∷ []) (word (codes "old") ▸ sign Dot ▸ mapped Old name)
-        (Either (Keyword (codes "new") ∷ []) (word (codes "new") ▸ sign Dot ▸ mapped New name) others)
+unfoldable pub old_column : Rule Expr
+old_column = word (codes "old") ▸ sign Dot ▸ mapped Old name
+
+unfoldable pub new_column : Rule Expr
+new_column = word (codes "new") ▸ sign Dot ▸ mapped New name
+
+abbrev pub column_of_row_or : Rule Expr → Rule Expr
+column_of_row_or others = Either (Keyword (codes "old") ∷ []) old_column (Either (Keyword (codes "new") ∷ []) new_column others)
+
+-- what an expression may name
+unfoldable pub named : Scope → Rule Expr
+named InStatement = column
+named InCondition = column_of_row_or column
+named InCode = column_of_row_or operation_or_column
+
+unfoldable pub word_or_named : Scope → Rule Expr
+word_or_named scope =
+    Either (Keyword (codes "null") ∷ []) (says (codes "null") (Constant Null))
+    (Either (Keyword (codes "true") ∷ []) (says (codes "true") (Constant (Truth true)))
+    (Either (Keyword (codes "false") ∷ []) (says (codes "false") (Constant (Truth false))) (named scope)))
+
+-- an atom with no parentheses
+unfoldable pub plain_atom : Scope → Rule Expr
+plain_atom scope =
+    Either (Number ∷ []) (Token Number (λ token. Constant (Int (pos (number_of token)))))
+    (Either (literal_in scope ∷ []) (Token (literal_in scope) (λ token. Constant (Words (text_of token)))) (word_or_named scope))
 
 unfoldable pub atom : Scope → Rule Expr
-atom scope =
-    Either (Number ∷ []) (Token Number (λ token. Constant (Int (pos (number_of token)))))
-    (Either (literal_in scope ∷ []) (Token (literal_in scope) (λ token. Constant (Words (text_of token))))
-    (Either (Keyword (codes "null") ∷ []) (says (codes "null") (Constant Null))
-    (Either (Keyword (codes "true") ∷ []) (says (codes "true") (Constant (Truth true)))
-    (Either (Keyword (codes "false") ∷ []) (says (codes "false") (Constant (Truth false)))
-    (Either (Sign OpenParen ∷ []) (in_parentheses (Call (Expression scope) (λ e. e)))
-    (row_or scope (operation_or scope column)))))))
+atom scope = Either (Sign OpenParen ∷ []) (in_parentheses (Call (Expression scope) (λ e. e))) (plain_atom scope)
 
 -- as many of an operator before an operand
 abbrev pub before : (Expr → Expr) → List (Unit {0}) → Expr → Expr
@@ -98,17 +105,16 @@ signed scope = Both (before Negate) (Many (Sign Minus ∷ []) [] (λ signs. sign
 unfoldable pub product : Scope → Rule Expr
 product scope = Both (from_left Multiply) (signed scope) (Many (Sign Times ∷ []) [] (λ others. others) (sign Times ▸ signed scope))
 
--- an operand of a sum that is added, or one that is subtracted
-pub data Summand : Type 0 where
-  Plus_ : Expr → Summand
-  Minus_ : Expr → Summand
+-- `+`, or `-`, which subtracts
+unfoldable pub sum_sign : Rule Bool
+sum_sign = Either (Sign Plus ∷ []) (Token (Sign Plus) (λ token. false)) (Token (Sign Minus) (λ token. true))
 
-abbrev pub with_summand : Expr → Summand → Expr
-with_summand e (Plus_ right) = Add e right
-with_summand e (Minus_ right) = Subtract e right
+abbrev pub with_summand : Expr → Bool × Expr → Expr
+with_summand e (false, right) = Add e right
+with_summand e (true, right) = Subtract e right
 
-unfoldable pub summand : Scope → Rule Summand
-summand scope = Either (Sign Plus ∷ []) (sign Plus ▸ mapped Plus_ (product scope)) (sign Minus ▸ mapped Minus_ (product scope))
+unfoldable pub summand : Scope → Rule (Bool × Expr)
+summand scope = Both (λ subtracts right. (subtracts, right)) sum_sign (product scope)
 
 unfoldable pub sum : Scope → Rule Expr
 sum scope = Both (from_left with_summand) (product scope) (Many (Sign Plus ∷ Sign Minus ∷ []) [] (λ others. others) (summand scope))
@@ -132,17 +138,23 @@ compared e (Some (comparison, right)) = Compare e comparison right
 unfoldable pub comparison : Scope → Rule Expr
 comparison scope = Both compared (sum scope) (optional comparison_signs (Both (λ sign right. (sign, right)) comparison_sign (sum scope)))
 
--- with or without NOT, and what is distinct where it isn't NULL
-abbrev pub tested : Expr → Option (Unit {0}) × Option Expr → Expr
-tested e (None, None) = IsNull e
-tested e (Some not, None) = IsNotNull e
-tested e (None, Some right) = IsDistinct e right
-tested e (Some not, Some right) = IsNotDistinct e right
+-- NOT, or nothing
+unfoldable pub negated : Rule Bool
+negated = Either (Keyword (codes "not") ∷ []) (says (codes "not") true) (Done false)
 
-unfoldable pub is_test : Scope → Rule (Option (Unit {0}) × Option Expr)
-is_test scope =
-    word (codes "is") ▸ Both (λ negated right. (negated, right)) (optional (Keyword (codes "not") ∷ []) (word (codes "not")))
-    (Either (Keyword (codes "null") ∷ []) (says (codes "null") None) (word (codes "distinct") ▸ word (codes "from") ▸ mapped Some (comparison scope)))
+-- with or without NOT, and what is distinct where it isn't NULL
+abbrev pub tested : Expr → Bool × Option Expr → Expr
+tested e (false, None) = IsNull e
+tested e (true, None) = IsNotNull e
+tested e (false, Some right) = IsDistinct e right
+tested e (true, Some right) = IsNotDistinct e right
+
+unfoldable pub null_or_distinct : Scope → Rule (Option Expr)
+null_or_distinct scope =
+    Either (Keyword (codes "null") ∷ []) (says (codes "null") None) (word (codes "distinct") ▸ word (codes "from") ▸ mapped Some (comparison scope))
+
+unfoldable pub is_test : Scope → Rule (Bool × Option Expr)
+is_test scope = word (codes "is") ▸ Both (λ negated right. (negated, right)) negated (null_or_distinct scope)
 
 unfoldable pub test : Scope → Rule Expr
 test scope = Both (from_left tested) (comparison scope) (Many (Keyword (codes "is") ∷ []) [] (λ others. others) (is_test scope))

@@ -1,5 +1,5 @@
 -- The rules that lead back to themselves, and the tokens with which they begin and go on.
-use Rattle.std.specs.Prelude.{Bool, true, false, List, [], ◌∷◌, codes}
+use Rattle.std.specs.Prelude.{ℕ, zero, suc, Bool, true, false, List, [], ◌∷◌, ◌++◌, codes}
 use Rattle.aq_lex.specs.declared.token.Symbol.TheVariants.{OpenParen, CloseParen, Semicolon, Dot}
 use Rattle.aq_grammar.specs.Terminals.{Terminal, Keyword, Name, NameOf, NameBut, Number, Literal, Sign}
 use Rattle.aq_grammar.specs.Rules.{Nonterminal, ValueOf, Rule, Expression, Block, ColumnConstraints, ReferenceEnd}
@@ -9,7 +9,7 @@ use Rattle.aq_grammar.specs.Calls.{Called, BarsCalled, called}
 use Rattle.aq_grammar.specs.Sets.{Marks, marks_by}
 use Rattle.aq_grammar.specs.Expressions.{literal_in, expression}
 use Rattle.aq_grammar.specs.Bodies.{block}
-use Rattle.aq_grammar.specs.Tables.{column_constraints, reference_end}
+use Rattle.aq_grammar.specs.Tables.{column_constraints, constraint_begins, reference_end}
 
 unfoldable pub rules : (nonterminal : Nonterminal) → Rule (ValueOf nonterminal)
 rules (Expression scope) = expression scope
@@ -26,12 +26,6 @@ behind_constraint =
 
 abbrev pub refused_behind_constraint : List Terminal
 refused_behind_constraint = Keyword (codes "not") ∷ Keyword (codes "check") ∷ Keyword (codes "exclude") ∷ []
-
--- the constraints of a column begin so
-abbrev pub constraint_begins : Bool → List Terminal
-constraint_begins true = Keyword (codes "not") ∷ Keyword (codes "constraint") ∷ Keyword (codes "primary") ∷ Keyword (codes "unique") ∷ Keyword (codes "references") ∷ []
-constraint_begins false =
-    Keyword (codes "not") ∷ Keyword (codes "default") ∷ Keyword (codes "constraint") ∷ Keyword (codes "primary") ∷ Keyword (codes "unique") ∷ Keyword (codes "references") ∷ []
 
 -- what rules need to know of a rule that they call
 abbrev pub called_marks : Nonterminal → Marks

@@ -1,12 +1,12 @@
 -- What a function of the parser returned, against what is read by a rule.
-use Rattle.std.specs.Prelude.{◌≡◌, ℕ, Bool, true, false, List, [], ◌∷◌, length, drop, Option, Some, None, Result, Ok, Err, if◌then◌else◌}
+use Rattle.std.specs.Prelude.{◌≡◌, ℕ, Bool, true, false, ◌&&◌, ◌||◌, List, [], ◌∷◌, length, drop, Option, Some, None, Result, Ok, Err, codes, if◌then◌else◌}
 use Rattle.aq_base.specs.Names.{Text as Bytes}
 use Rattle.aq_base.specs.declared.expr.Expr.{Expr}
 use Rattle.aq_base.specs.declared.fault.SqlFault.{SqlFault}
 use Rattle.aq_lex.specs.Lexemes.{PlacedLexeme, first_text}
-use Rattle.aq_lex.specs.declared.token.Symbol.TheVariants.{Comma}
-use Rattle.aq_grammar.specs.Terminals.{Terminal, Sign, Count, begins, fits, number_of}
-use Rattle.aq_grammar.specs.Rules.{Refusal}
+use Rattle.aq_lex.specs.declared.token.Symbol.TheVariants.{Comma, Dot}
+use Rattle.aq_grammar.specs.Terminals.{Terminal, Keyword, Name, NameOf, Sign, Count, begins, begin_with, fits, number_of}
+use Rattle.aq_grammar.specs.Rules.{Refusal, refused}
 use Rattle.aq_grammar.specs.Expressions.{from_left}
 use Rattle.aq_grammar.specs.Forms.{sign}
 use Rattle.aq_grammar.specs.Nonterminals.{reads}
@@ -74,3 +74,15 @@ IsRefusalOf refusals tokens (Refused left said) = (left ≡ length tokens) × (r
 unfoldable pub RefusesSo : List Refusal → Result (Unit {0}) ReadFault → List PlacedLexeme → Type 0
 RefusesSo refusals (Ok x) tokens = refused refusals tokens ≡ None
 RefusesSo refusals (Err fault) tokens = IsRefusalOf refusals tokens fault
+
+-- a table, before which ONLY may not stand, and then a word
+abbrev pub table_then : Bytes → List PlacedLexeme → Bool
+table_then last tokens =
+    begin_with (Name ∷ Keyword last ∷ []) tokens || begin_with (NameOf (codes "public") ∷ Sign Dot ∷ Name ∷ Keyword last ∷ []) tokens
+
+-- ALTER TABLE and a table, before which ONLY may stand, and then a word
+abbrev pub alters : Bytes → List PlacedLexeme → Bool
+alters last tokens =
+    begin_with (Keyword (codes "alter") ∷ Keyword (codes "table") ∷ []) tokens
+    && (table_then last (drop 1 (drop 1 tokens))
+    || (begin_with (Keyword (codes "only") ∷ []) (drop 1 (drop 1 tokens)) && table_then last (drop 1 (drop 1 (drop 1 tokens)))))

@@ -10,15 +10,15 @@
 --     timing     = NOT DEFERRABLE [INITIALLY IMMEDIATE] | DEFERRABLE [INITIALLY (IMMEDIATE | DEFERRED)] | INITIALLY (IMMEDIATE | DEFERRED)
 -- A column's NOT behind its REFERENCES begins NOT NULL or NOT DEFERRABLE. So that the next token always tells how to go on, what comes
 -- behind a column's constraint is one form: the timing and the constraints that follow.
-use Rattle.std.specs.Prelude.{ℕ, zero, suc, ℤ, pos, negsuc, Bool, true, false, List, [], ◌∷◌, Option, Some, None, codes}
+use Rattle.std.specs.Prelude.{ℤ, pos, neg_ℤ, Bool, true, false, List, [], ◌∷◌, ◌++◌, Option, Some, None, codes}
 use Rattle.aq_base.specs.Names.{Text as Bytes}
 use Rattle.aq_base.specs.declared.catalog.Decl.{Decl}
 use Rattle.aq_base.specs.declared.value.Value.{Value}
 use Rattle.aq_base.specs.declared.value.Value.TheVariants.{Null, Bool as Truth, Int, Text as Words}
-use Rattle.aq_lex.specs.declared.token.Symbol.TheVariants.{OpenParen, Minus}
-use Rattle.aq_grammar.specs.Terminals.{Keyword, Number, Literal, Sign, text_of, number_of}
+use Rattle.aq_lex.specs.declared.token.Symbol.TheVariants.{OpenParen, CloseParen, Minus}
+use Rattle.aq_grammar.specs.Terminals.{Terminal, Keyword, NameOf, Name, Number, Literal, Sign, text_of, number_of}
 use Rattle.aq_grammar.specs.Rules.{Rule, Refusal, Done, Token, Both, Either, Call, Unless, ColumnConstraints, ReferenceEnd}
-use Rattle.aq_grammar.specs.Forms.{word, sign, ◌▸◌, mapped, says, optional, listed, in_parentheses, name, names, public_name, refuse, refuse_word}
+use Rattle.aq_grammar.specs.Forms.{word, sign, ◌▸◌, ◌◂◌, mapped, says, optional, listed, in_parentheses, name, names, public_name, refuse, refuse_word}
 use Rattle.aq_grammar.specs.Changes.{column_list, end_without}
 use Rattle.aq_base.specs.declared.script.Kind.{Kind}
 use Rattle.aq_base.specs.declared.constraint.Match.{Match}
@@ -71,18 +71,19 @@ kind =
     kind_word (codes "integer") Integer (kind_word (codes "int") Integer (kind_word (codes "int4") Integer (kind_word (codes "bigint") Bigint
     (kind_word (codes "int8") Bigint (kind_word (codes "boolean") Boolean (kind_word (codes "bool") Boolean (says (codes "text") TextKind)))))))
 
--- the integer with the other sign
-abbrev pub negated : ℕ → ℤ
-negated zero = pos 0
-negated (suc number) = negsuc number
+abbrev pub number : Rule ℤ
+number = Token Number (λ token. pos (number_of token))
+
+-- a number with a minus sign before it
+abbrev pub negative : Rule Value
+negative = sign Minus ▸ mapped (λ number. Int (neg_ℤ number)) number
 
 unfoldable pub constant : Rule Value
 constant =
     Either (Keyword (codes "null") ∷ []) (says (codes "null") Null)
     (Either (Keyword (codes "true") ∷ []) (says (codes "true") (Truth true))
     (Either (Keyword (codes "false") ∷ []) (says (codes "false") (Truth false))
-    (Either (Literal ∷ []) (Token Literal (λ token. Words (text_of token)))
-    (Either (Sign Minus ∷ []) (sign Minus ▸ Token Number (λ token. Int (negated (number_of token)))) (Token Number (λ token. Int (pos (number_of token))))))))
+    (Either (Literal ∷ []) (mapped Words (Token Literal text_of)) (Either (Sign Minus ∷ []) negative (mapped (λ number. Int number) number)))))
 
 -- true: it waits for the commit
 unfoldable pub initially : Rule Bool
@@ -109,13 +110,27 @@ behind_not_deferrable =
 unfoldable pub initially_alone : Rule Decl
 initially_alone = mapped (λ deferred. decl deferred deferred) initially
 
--- when a foreign key or a constraint trigger is checked, with what may not stand behind it
+-- DEFERRABLE, or INITIALLY alone
+unfoldable pub deferring : Rule Decl
+deferring = Either (Keyword (codes "deferrable") ∷ []) (word (codes "deferrable") ▸ behind_deferrable) initially_alone
+
+unfoldable pub given_timing : Rule Decl
+given_timing = Either (Keyword (codes "not") ∷ []) (word (codes "not") ▸ word (codes "deferrable") ▸ behind_not_deferrable) deferring
+
+abbrev pub timing_begins : List Terminal
+timing_begins = Keyword (codes "not") ∷ Keyword (codes "deferrable") ∷ Keyword (codes "initially") ∷ []
+
+-- where nothing is said it is checked at once
+abbrev pub immediate : Decl
+immediate = decl false false
+
+-- a timing that may be left out, with what may not stand behind one that is given
+unfoldable pub perhaps_timing : List Refusal → Rule Decl
+perhaps_timing refusals = Either timing_begins (end_without refusals given_timing) (Done immediate)
+
+-- when a foreign key or a constraint trigger is checked, with what may stand neither before nor behind it
 unfoldable pub timing_without : List Refusal → Rule Decl
-timing_without refusals =
-    Unless refusals
-    (Either (Keyword (codes "not") ∷ []) (word (codes "not") ▸ word (codes "deferrable") ▸ end_without refusals behind_not_deferrable)
-    (Either (Keyword (codes "deferrable") ∷ []) (word (codes "deferrable") ▸ end_without refusals behind_deferrable)
-    (Either (Keyword (codes "initially") ∷ []) (end_without refusals initially_alone) (Done (decl false false)))))
+timing_without refusals = Unless refusals (perhaps_timing refusals)
 
 abbrev pub partial_match : Refusal
 partial_match = refuse (Keyword (codes "match") ∷ Keyword (codes "partial") ∷ []) (codes "MATCH PARTIAL is not supported")
@@ -125,12 +140,15 @@ matching =
     Unless (partial_match ∷ [])
     (Either (Keyword (codes "match") ∷ []) (word (codes "match") ▸ Either (Keyword (codes "simple") ∷ []) (says (codes "simple") Simple) (says (codes "full") Full)) (Done Simple))
 
+unfoldable pub setting : Rule Action
+setting = word (codes "set") ▸ Either (Keyword (codes "null") ∷ []) (says (codes "null") SetNull) (says (codes "default") SetDefault)
+
 unfoldable pub action : Rule Action
 action =
     Either (Keyword (codes "no") ∷ []) (word (codes "no") ▸ says (codes "action") NoAction)
     (Either (Keyword (codes "restrict") ∷ []) (says (codes "restrict") Restrict)
     (Either (Keyword (codes "cascade") ∷ []) (says (codes "cascade") Cascade)
-    (word (codes "set") ▸ Either (Keyword (codes "null") ∷ []) (says (codes "null") SetNull) (says (codes "default") SetDefault))))
+    setting))
 
 -- the action of the other change, where it is given
 abbrev pub action_on : Bytes → Rule Action
@@ -181,9 +199,6 @@ constraints has_default = Call (ColumnConstraints has_default) (λ others. other
 unfoldable pub not_null : Bool → Rule (List ColumnConstraint)
 not_null has_default = word (codes "null") ▸ mapped (λ others. NotNull ∷ others) (constraints has_default)
 
-abbrev pub key_then : ColumnConstraint → Bool → Rule (List ColumnConstraint)
-key_then key has_default = Unless behind_key (mapped (λ others. key ∷ others) (constraints has_default))
-
 abbrev pub references_then : Option Bytes → Target → Decl × List ColumnConstraint → List ColumnConstraint
 references_then named target (timing, others) = References named (reference_of target timing) ∷ others
 
@@ -201,16 +216,33 @@ default_or true others = others
 default_or false others =
     Either (Keyword (codes "default") ∷ []) (word (codes "default") ▸ Both (λ value others. Default value ∷ others) constant (constraints true)) others
 
--- constraints that begin otherwise than with NOT
-unfoldable pub other_column_constraints : Bool → Rule (List ColumnConstraint)
-other_column_constraints has_default =
+-- a constraint that begins otherwise than with NOT, with those behind it
+unfoldable pub others_then : Bool → Rule (List ColumnConstraint)
+others_then has_default =
     default_or has_default
     (Either (Keyword (codes "constraint") ∷ []) (Both (λ text named. named (Some text)) constraint_name (Unless other_constraints (named_constraint has_default)))
-    (Either (Keyword (codes "primary") ∷ Keyword (codes "unique") ∷ Keyword (codes "references") ∷ []) (mapped (λ named. named None) (named_constraint has_default)) (Done [])))
+    (mapped (λ named. named None) (named_constraint has_default)))
+
+-- a constraint with a name or without one
+abbrev pub named_begins : List Terminal
+named_begins = Keyword (codes "constraint") ∷ Keyword (codes "primary") ∷ Keyword (codes "unique") ∷ Keyword (codes "references") ∷ []
+
+-- constraints begin so, otherwise than with NOT
+abbrev pub other_begins : Bool → List Terminal
+other_begins true = named_begins
+other_begins false = Keyword (codes "default") ∷ named_begins
+
+abbrev pub constraint_begins : Bool → List Terminal
+constraint_begins has_default = Keyword (codes "not") ∷ other_begins has_default
 
 unfoldable pub column_constraints : Bool → Rule (List ColumnConstraint)
 column_constraints has_default =
-    Unless other_constraints (Either (Keyword (codes "not") ∷ []) (word (codes "not") ▸ not_null has_default) (other_column_constraints has_default))
+    Unless other_constraints
+    (Either (constraint_begins has_default) (Either (Keyword (codes "not") ∷ []) (word (codes "not") ▸ not_null has_default) (others_then has_default)) (Done []))
+
+-- constraints that begin otherwise than with NOT
+unfoldable pub other_column_constraints : Bool → Rule (List ColumnConstraint)
+other_column_constraints has_default = Either (other_begins has_default) (others_then has_default) (Done [])
 
 abbrev pub with_timing : Decl → List ColumnConstraint → Decl × List ColumnConstraint
 with_timing timing others = (timing, others)
@@ -224,11 +256,10 @@ reference_end has_default =
     Unless (not_valid ∷ other_constraints)
     (Either (Keyword (codes "not") ∷ [])
     (word (codes "not")
-    ▸ Either (Keyword (codes "null") ∷ []) (mapped (with_timing (decl false false)) (not_null has_default))
-    (word (codes "deferrable") ▸ behind_timing behind_not_deferrable has_default))
-    (Either (Keyword (codes "deferrable") ∷ []) (word (codes "deferrable") ▸ behind_timing behind_deferrable has_default)
-    (Either (Keyword (codes "initially") ∷ []) (behind_timing initially_alone has_default)
-    (mapped (with_timing (decl false false)) (other_column_constraints has_default)))))
+    ▸ Either (Keyword (codes "null") ∷ []) (mapped (with_timing immediate) (not_null has_default))
+    (behind_timing (word (codes "deferrable") ▸ behind_not_deferrable) has_default))
+    (Either (Keyword (codes "deferrable") ∷ Keyword (codes "initially") ∷ []) (behind_timing deferring has_default)
+    (mapped (with_timing immediate) (other_column_constraints has_default))))
 
 unfoldable pub column_item : Rule TableItem
 column_item =

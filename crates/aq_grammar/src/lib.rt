@@ -7,6 +7,7 @@ mod fault;
 mod listing;
 mod naming;
 mod prefixes;
+mod refusal;
 mod repeating;
 mod scope;
 mod terminals;
@@ -16,6 +17,13 @@ pub use fault::ReadFault;
 pub use listing::{Form, listed};
 pub use naming::names;
 pub use prefixes::{behind_nots, behind_signs, nots, signs};
+pub use refusal::{
+    passes_limit, refuse_behind_insert, refuse_behind_items, refuse_behind_key,
+    refuse_behind_reference, refuse_in_code, refuse_in_session, refuse_in_setup, refuse_joins,
+    refuse_no_wait, refuse_not_after, refuse_not_valid, refuse_other_constraints,
+    refuse_other_items, refuse_partial_match, refuse_returning, refuse_serializable,
+    refuse_unsupported_statements, unsupported,
+};
 pub use repeating::{Repeated, many};
 pub use scope::Scope;
 pub use terminals::{

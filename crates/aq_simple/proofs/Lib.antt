@@ -1,0 +1,5 @@
+pub mod Lists
+pub mod Kept
+pub mod Stands
+pub mod Definitions
+pub mod Reasons
