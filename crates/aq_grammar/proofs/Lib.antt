@@ -29,3 +29,7 @@ pub mod AtEnd
 pub mod RefusedAt
 pub mod Short
 pub mod ShortFit
+pub mod Each
+pub mod OneFault
+pub mod OneFaultFit
+pub mod OneFaultRules

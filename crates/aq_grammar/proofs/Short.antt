@@ -1,15 +1,18 @@
 -- No token of a form is a name, a number or a text that is too long.
-use Rattle.std.proofs.Common.{◌≡◌, ℕ, zero, suc, Bool, true, false, not, ◌&&◌, ◌^◌, List, [], ◌∷◌, ◌++◌, if◌then◌else◌, Option, Some, None, refl, sym, ◌∙◌, subst, ap, ◌⊎◌, inl, inr, nat_lt}
-use Rattle.std.proofs.lemmas.Bool.{and_parts, cond-true}
+use Rattle.std.proofs.Common.{◌≡◌, ℕ, zero, suc, Bool, true, false, not, ◌&&◌, ◌^◌, List, [], ◌∷◌, ◌++◌, if◌then◌else◌, Some, None, refl, sym, subst, inl, inr, nat_lt}
+use Rattle.std.proofs.lemmas.Bool.{and_parts, or_cases}
 use Rattle.aq_base.specs.Names.{Text as Bytes, same_text, is_reserved, is_short}
 use Rattle.aq_base.specs.declared.fault.SqlFault.{SqlFault}
 use Rattle.aq_lex.specs.Lexemes.{PlacedLexeme, Lexeme, Word, QuotedName, Integer, Text, Symbol, Directive}
-use Rattle.aq_grammar.specs.Terminals.{Terminal, Keyword, Name, NameOf, NameBut, PlainName, Number, Count, Literal, LiteralInCode, Message, Sign, Heading, fits, is_of_kind, is_name_word, is_literal, is_literal_in_code, holds, text_of}
+use Rattle.aq_grammar.specs.Terminals.{Terminal, Keyword, Name, NameOf, NameBut, PlainName, Number, Count, Literal, LiteralInCode, Message, Sign, Heading, fits, is_of_kind, is_name_word, is_literal, is_literal_in_code, holds, is_of, text_of}
 use Rattle.std.specs.Prelude.{codes}
-use Rattle.aq_grammar.specs.Rules.{Nonterminal, ValueOf, Rule, Done, Token, Both, Either, Many, Differing, Call, Unless, Limited, Form, SpellsToken, SpellsBoth, SpellsEach, SpellsOther, SpellsBy}
-use Rattle.aq_grammar.specs.Calls.{Rules, CalledWithin, Called}
+use Rattle.std.specs.List.{list_all}
+use Rattle.aq_grammar.specs.Rules.{Nonterminal, ValueOf, Refusal, Rule, Done, Token, Both, Either, Many, Differing, Call, Unless, Limited, Form, Bar, IsRefused, BarsNext, SpellsToken, SpellsBoth, SpellsEach, SpellsOther, SpellsBy, BarsBy}
+use Rattle.aq_grammar.specs.Sets.{Marks, heads, have_words, is_fit_by}
+use Rattle.aq_grammar.specs.Calls.{Rules, AreFit, CalledWithin, Called, BarredWithin, BarsCalled}
 use Rattle.aq_grammar.specs.Places.{own_fault, long_name, long_text, out_of_range}
 use Rattle.aq_grammar.proofs.Apart.{same_text_is}
+use Rattle.aq_grammar.proofs.Keeping.{refusals_open, fit_both, fit_either, fit_many, fit_differing, fit_unless, fit_limited}
 
 abbrev pub IsShort : PlacedLexeme → Type 0
 IsShort token = own_fault token.lexeme ≡ None
@@ -103,36 +106,48 @@ message_short : (lexeme : Lexeme) → is_of_kind Message lexeme ≡ true → own
 message_short (Text text) is = literal_in_code_short (Text text) (and_parts (is_literal_in_code text) (not (holds (codes "%") text)) is).0
 message_short lexeme is = cc
 
-sign_short : (lexeme : Lexeme) (kind : Terminal) → is_of_kind kind lexeme ≡ true → is_short_kind kind ≡ true → own_fault lexeme ≡ None
-sign_short lexeme (Keyword word) is short = keyword_short word lexeme short is
-sign_short lexeme Name is short = name_short lexeme is
-sign_short lexeme (NameOf name) is short = name_of_short name lexeme is
-sign_short lexeme (NameBut name) is short = name_but_short name lexeme is
-sign_short lexeme PlainName is short = plain_name_short lexeme is
-sign_short lexeme Number is short = number_short lexeme is
-sign_short lexeme Count is short = count_short lexeme is
-sign_short lexeme Literal is short = literal_short lexeme is
-sign_short lexeme LiteralInCode is short = literal_in_code_short lexeme is
-sign_short lexeme Message is short = message_short lexeme is
-sign_short (Symbol found) (Sign symbol) is short = refl
-sign_short (Directive found) (Heading directive) is short = refl
-sign_short lexeme (Sign symbol) is short = cc
-sign_short lexeme (Heading directive) is short = cc
+lexeme_short : (lexeme : Lexeme) (kind : Terminal) → is_of_kind kind lexeme ≡ true → is_short_kind kind ≡ true → own_fault lexeme ≡ None
+lexeme_short lexeme (Keyword word) is short = keyword_short word lexeme short is
+lexeme_short lexeme Name is short = name_short lexeme is
+lexeme_short lexeme (NameOf name) is short = name_of_short name lexeme is
+lexeme_short lexeme (NameBut name) is short = name_but_short name lexeme is
+lexeme_short lexeme PlainName is short = plain_name_short lexeme is
+lexeme_short lexeme Number is short = number_short lexeme is
+lexeme_short lexeme Count is short = count_short lexeme is
+lexeme_short lexeme Literal is short = literal_short lexeme is
+lexeme_short lexeme LiteralInCode is short = literal_in_code_short lexeme is
+lexeme_short lexeme Message is short = message_short lexeme is
+lexeme_short (Symbol found) (Sign symbol) is short = refl
+lexeme_short (Directive found) (Heading directive) is short = refl
+lexeme_short lexeme (Sign symbol) is short = cc
+lexeme_short lexeme (Heading directive) is short = cc
 
 pub kind_short : (kind : Terminal) (token : PlacedLexeme) → is_short_kind kind ≡ true → fits kind token ≡ true → IsShort token
-kind_short kind token short is = sign_short token.lexeme kind is short
+kind_short kind token short is = lexeme_short token.lexeme kind is short
 
--- ---- the words that a rule names are short
+abbrev pub are_short_kinds : List Terminal → Bool
+are_short_kinds kinds = list_all is_short_kind kinds
+
+pub kinds_short : (kinds : List Terminal) (token : PlacedLexeme) → are_short_kinds kinds ≡ true → is_of kinds token ≡ true → IsShort token
+kinds_short [] token short is = cc
+kinds_short (kind ∷ kinds) token short is =
+    let (first, others) = and_parts (is_short_kind kind) (are_short_kinds kinds) short in
+    elim (or_cases (fits kind token) (is_of kinds token) is) [
+      | inl e ↦ kind_short kind token first e
+      | inr e ↦ kinds_short kinds token others e
+    ]
+
+-- ---- the words that a rule names are short, and those with which it refuses
 
 abbrev pub has_short_words : {A : Type 0} → Rule A → Bool
 has_short_words (Done x) = true
 has_short_words (Token kind f) = is_short_kind kind
 has_short_words (Both f a b) = has_short_words a && has_short_words b
 has_short_words (Either kinds a b) = has_short_words a && has_short_words b
-has_short_words (Many kinds refusals f a) = has_short_words a
+has_short_words (Many kinds refusals f a) = are_short_kinds (heads refusals) && has_short_words a
 has_short_words (Differing f a name kinds b) = has_short_words a && has_short_words b
 has_short_words (Call nonterminal f) = true
-has_short_words (Unless refusals a) = has_short_words a
+has_short_words (Unless refusals a) = are_short_kinds (heads refusals) && has_short_words a
 has_short_words (Limited most limit a) = has_short_words a
 
 -- each token of a form is short
@@ -163,12 +178,13 @@ module _ (calls : (n : Nonterminal) → Form (ValueOf n)) (short : (n : Nontermi
       short_of_both f (SpellsBy calls a) (λ y. SpellsBy calls b) (short_by a first) (λ y. short_by b second) x u s
   short_by (Either kinds a b) words x u (inl s) = short_by a (and_parts (has_short_words a) (has_short_words b) words).0 x u s
   short_by (Either kinds a b) words x u (inr s) = short_by b (and_parts (has_short_words a) (has_short_words b) words).1 x u s
-  short_by (Many kinds refusals f a) words x u (xs, s, e) = short_of_each (SpellsBy calls a) (short_by a words) xs u s
+  short_by (Many kinds refusals f a) words x u (xs, s, e) =
+      short_of_each (SpellsBy calls a) (short_by a (and_parts (are_short_kinds (heads refusals)) (has_short_words a) words).1) xs u s
   short_by (Differing f a name kinds b) words x u s =
       let (first, second) = and_parts (has_short_words a) (has_short_words b) words in
       short_of_both f (SpellsBy calls a) (λ y. SpellsOther (SpellsBy calls b) (name y)) (short_by a first) (λ y. short_other (SpellsBy calls b) (name y) (short_by b second)) x u s
   short_by (Call nonterminal f) words x u s = short nonterminal s.0 u s.1
-  short_by (Unless refusals a) words x u s = short_by a words x u s
+  short_by (Unless refusals a) words x u s = short_by a (and_parts (are_short_kinds (heads refusals)) (has_short_words a) words).1 x u s
   short_by (Limited most limit a) words x u s = short_by a words x u s
 
 module _ (rules : Rules) (words : (n : Nonterminal) → has_short_words (rules n) ≡ true) where
@@ -179,3 +195,62 @@ module _ (rules : Rules) (words : (n : Nonterminal) → has_short_words (rules n
   -- each token of a rule over the nonterminals is short
   pub short_rule : {A : Type 0} (r : Rule A) → has_short_words r ≡ true → SpellsShort (SpellsBy (Called rules) r)
   short_rule r is = short_by (Called rules) (λ n x u s. short_within s.0 n x u s.1) r is
+
+-- ---- what is refused is short too
+
+-- the first token of what is refused is short
+abbrev pub BarsShort : Bar → Type 0
+BarsShort bars = (u : List PlacedLexeme) (token : PlacedLexeme) (rest : List PlacedLexeme) (fault : SqlFault) → bars u (token ∷ rest) fault → IsShort token
+
+pub refusals_short : (refusals : List Refusal) (token : PlacedLexeme) (rest : List PlacedLexeme) (fault : SqlFault) → are_short_kinds (heads refusals) ≡ true
+    → have_words refusals ≡ true → IsRefused refusals (token ∷ rest) fault → IsShort token
+refusals_short refusals token rest fault short worded is = kinds_short (heads refusals) token short (refusals_open refusals (token ∷ rest) fault worded is)
+
+next_short : {A : Type 0} (most : ℕ) (limit : SqlFault) (Spelled : Form A) → SpellsShort Spelled → BarsShort (BarsNext most limit Spelled)
+next_short most limit Spelled short [] token rest fault bar = absurd bar
+next_short most limit Spelled short (first ∷ others) token rest fault (e, (behind, x, s), is) =
+    short_next (first ∷ others) [] token (short_front (first ∷ others ++ token ∷ []) behind (short x ((first ∷ others ++ token ∷ []) ++ behind) s))
+
+module _ (calls : (n : Nonterminal) → Form (ValueOf n)) (bars : Nonterminal → Bar) (marks : Nonterminal → Marks) (short : (n : Nonterminal) → SpellsShort (calls n))
+    (barred : (n : Nonterminal) → BarsShort (bars n)) where
+  pub barred_short_by : {A : Type 0} (r : Rule A) → is_fit_by marks r ≡ true → has_short_words r ≡ true → BarsShort (BarsBy calls bars r)
+  barred_short_by (Done x) fit words u token rest fault bar = absurd bar
+  barred_short_by (Token kind f) fit words u token rest fault bar = absurd bar
+  barred_short_by (Both f a b) fit words u token rest fault (inl bar) =
+      barred_short_by a (fit_both marks f a b fit).0 (and_parts (has_short_words a) (has_short_words b) words).0 u token rest fault bar
+  barred_short_by (Both f a b) fit words u token rest fault (inr bar) =
+      barred_short_by b (fit_both marks f a b fit).1 (and_parts (has_short_words a) (has_short_words b) words).1 bar.1 token rest fault bar.5
+  barred_short_by (Either kinds a b) fit words u token rest fault (inl bar) =
+      barred_short_by a (fit_either marks kinds a b fit).0 (and_parts (has_short_words a) (has_short_words b) words).0 u token rest fault bar
+  barred_short_by (Either kinds a b) fit words u token rest fault (inr bar) =
+      barred_short_by b (fit_either marks kinds a b fit).1 (and_parts (has_short_words a) (has_short_words b) words).1 u token rest fault bar
+  barred_short_by (Many kinds refusals f a) fit words u token rest fault (front, behind, xs, s, e, inl bar) =
+      barred_short_by a (fit_many marks kinds refusals f a fit).0 (and_parts (are_short_kinds (heads refusals)) (has_short_words a) words).1 behind token rest fault bar
+  barred_short_by (Many kinds refusals f a) fit words u token rest fault (front, behind, xs, s, e, inr here) =
+      refusals_short refusals token rest fault (and_parts (are_short_kinds (heads refusals)) (has_short_words a) words).0 (fit_many marks kinds refusals f a fit).1.worded here.1
+  barred_short_by (Differing f a name kinds b) fit words u token rest fault (inl bar) =
+      barred_short_by a (fit_differing marks f a name kinds b fit).0 (and_parts (has_short_words a) (has_short_words b) words).0 u token rest fault bar
+  barred_short_by (Differing f a name kinds b) fit words u token rest fault (inr bar) =
+      barred_short_by b (fit_differing marks f a name kinds b fit).1 (and_parts (has_short_words a) (has_short_words b) words).1 bar.1 token rest fault bar.5
+  barred_short_by (Call nonterminal f) fit words u token rest fault bar = barred nonterminal u token rest fault bar
+  barred_short_by (Unless refusals a) fit words u token rest fault (inl here) =
+      refusals_short refusals token rest fault (and_parts (are_short_kinds (heads refusals)) (has_short_words a) words).0 (fit_unless marks refusals a fit).1 here.1
+  barred_short_by (Unless refusals a) fit words u token rest fault (inr bar) =
+      barred_short_by a (fit_unless marks refusals a fit).0 (and_parts (are_short_kinds (heads refusals)) (has_short_words a) words).1 u token rest fault bar
+  barred_short_by (Limited most limit a) fit words u token rest fault (inl bar) =
+      next_short most limit (SpellsBy calls a) (short_by calls short a words) u token rest fault bar
+  barred_short_by (Limited most limit a) fit words u token rest fault (inr bar) = barred_short_by a (fit_limited marks most limit a fit).0 words u token rest fault bar
+
+module _ (rules : Rules) (marks : Nonterminal → Marks) (fits : AreFit rules marks) (words : (n : Nonterminal) → has_short_words (rules n) ≡ true) where
+  called_short : (n : Nonterminal) → SpellsShort (Called rules n)
+  called_short n x u s = short_within rules words s.0 n x u s.1
+
+  within_barred_short : (most : ℕ) (n : Nonterminal) → BarsShort (BarredWithin rules most n)
+  within_barred_short zero n u token rest fault bar = absurd bar
+  within_barred_short (suc most) n u token rest fault bar =
+      barred_short_by (Called rules) (BarredWithin rules most) marks called_short (within_barred_short most) (rules n) (fits.fit n) (words n) u token rest fault bar
+
+  -- what a rule over the nonterminals refuses is short
+  pub barred_short_rule : {A : Type 0} (r : Rule A) → is_fit_by marks r ≡ true → has_short_words r ≡ true → BarsShort (BarsBy (Called rules) (BarsCalled rules) r)
+  barred_short_rule r fit is u token rest fault bar =
+      barred_short_by (Called rules) (BarsCalled rules) marks called_short (λ n v other behind why b. within_barred_short b.0 n v other behind why b.1) r fit is u token rest fault bar

@@ -266,12 +266,21 @@ column_item =
     Both (λ text (described : Kind × List ColumnConstraint). Column_item text described.0 described.1) name
     (Both (λ kind constraints. (kind, constraints)) kind (constraints false))
 
+-- constraints of a table behind their names
+unfoldable pub table_primary_key : Rule (Option Bytes → TableConstraint)
+table_primary_key =
+    word (codes "primary") ▸ word (codes "key") ▸ mapped (λ columns named. PrimaryKey_of named columns) (end_without behind_key (in_parentheses names))
+
+unfoldable pub table_unique : Rule (Option Bytes → TableConstraint)
+table_unique = word (codes "unique") ▸ mapped (λ columns named. Unique_of named columns) (end_without behind_key (in_parentheses names))
+
+unfoldable pub table_foreign_key : Rule (Option Bytes → TableConstraint)
+table_foreign_key =
+    word (codes "foreign") ▸ word (codes "key")
+    ▸ Both (λ columns reference named. ForeignKey_of named columns reference) (in_parentheses names) (Both reference_of target (timing_without (not_valid ∷ [])))
+
 unfoldable pub bare_table_constraint : Rule (Option Bytes → TableConstraint)
-bare_table_constraint =
-    Either (Keyword (codes "primary") ∷ []) (word (codes "primary") ▸ word (codes "key") ▸ mapped (λ columns named. PrimaryKey_of named columns) (end_without behind_key (in_parentheses names)))
-    (Either (Keyword (codes "unique") ∷ []) (word (codes "unique") ▸ mapped (λ columns named. Unique_of named columns) (end_without behind_key (in_parentheses names)))
-    (word (codes "foreign") ▸ word (codes "key")
-    ▸ Both (λ columns reference named. ForeignKey_of named columns reference) (in_parentheses names) (Both reference_of target (timing_without (not_valid ∷ [])))))
+bare_table_constraint = Either (Keyword (codes "primary") ∷ []) table_primary_key (Either (Keyword (codes "unique") ∷ []) table_unique table_foreign_key)
 
 unfoldable pub table_constraint : Rule TableConstraint
 table_constraint =
@@ -287,12 +296,22 @@ item =
 abbrev pub behind_items : List Refusal
 behind_items = refuse_word (codes "partition") (codes "partitions are not supported") ∷ refuse_word (codes "inherits") (codes "inheritance is not supported") ∷ []
 
+unfoldable pub items : Rule (List TableItem)
+items = listed item
+
 unfoldable pub create_table : Rule Statement
 create_table =
     word (codes "table")
-    ▸ Both (λ table items. CreateTable (record { table = table; items = items })) public_name (end_without behind_items (in_parentheses (listed item)))
+    ▸ Both (λ table items. CreateTable (record { table = table; items = items })) public_name (end_without behind_items (in_parentheses items))
+
+unfoldable pub added : Rule TableConstraint
+added = word (codes "add") ▸ Unless other_constraints table_constraint
+
+-- ONLY may be left out
+abbrev pub perhaps_only : Rule (Unit {0})
+perhaps_only = Either (Keyword (codes "only") ∷ []) (word (codes "only")) (Done tt)
 
 unfoldable pub alter_table : Rule Statement
 alter_table =
-    word (codes "alter") ▸ word (codes "table") ▸ optional (Keyword (codes "only") ∷ []) (word (codes "only"))
-    ▸ Both (λ table constraint. AlterTable (record { table = table; constraint = constraint })) public_name (word (codes "add") ▸ Unless other_constraints table_constraint)
+    word (codes "alter") ▸ word (codes "table") ▸ perhaps_only
+    ▸ Both (λ table constraint. AlterTable (record { table = table; constraint = constraint })) public_name added

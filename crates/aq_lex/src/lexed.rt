@@ -1,6 +1,6 @@
 //! Tokens with the bytes that they stand for.
 
-ghost use Rattle.std.specs.Prelude.{◌≡◌, [], ◌↔◌, length, drop, IsTrue, IfOk, option_map};
+ghost use Rattle.std.specs.Prelude.{◌≡◌, [], ◌↔◌, length, take, drop, IsTrue, IfOk, option_map};
 ghost use Rattle.aq_lex.specs.Tokens.{Lexes};
 ghost use Rattle.aq_lex.specs.Lexemes.{lexemes, first_line, first_kind, first_text, first_integer, first_is_word, first_is_symbol, first_is_directive};
 
@@ -31,6 +31,18 @@ impl<'a> Model for Lexed<'a> {
     ghost view = { lexed_view };
 
     ghost invariant = { IsLexed };
+}
+
+fn first_tokens(tokens: &[Token], most: usize) -> &[Token]
+    ensures { result.now ≡ take most tokens.now }
+{
+    tokens.get(..most).unwrap_or(tokens)
+}
+
+fn tokens_behind(tokens: &[Token], count: usize) -> &[Token]
+    ensures { result.now ≡ drop count tokens.now }
+{
+    tokens.get(count..).unwrap_or(&[])
 }
 
 impl<'a> Lexed<'a> {
@@ -100,6 +112,32 @@ impl<'a> Lexed<'a> {
         let Some((first, others)) = self.tokens.split_first() else {
             return self.copied();
         };
+        Lexed {
+            bytes: self.bytes,
+            tokens: others,
+            line: next_line(self.bytes, self.line, first.from, others),
+        }
+    }
+
+    /// The first tokens, so many at the most.
+    pub fn front(&self, most: usize) -> Lexed<'a>
+        ensures { result ≡ take most self.now }
+    {
+        Lexed {
+            bytes: self.bytes,
+            tokens: first_tokens(self.tokens, most),
+            line: self.line,
+        }
+    }
+
+    /// The tokens behind so many.
+    pub fn behind(&self, count: usize) -> Lexed<'a>
+        ensures { result ≡ drop count self.now }
+    {
+        let Some(first) = self.tokens.first() else {
+            return self.copied();
+        };
+        let others = tokens_behind(self.tokens, count);
         Lexed {
             bytes: self.bytes,
             tokens: others,

@@ -1,0 +1,14 @@
+pub mod Each
+pub mod Fit
+pub mod Lines
+pub mod Marked
+pub mod Statements
+pub mod Sections
+pub mod Scripts
+pub mod Whole
+pub mod Ends
+pub mod Subqueries
+pub mod Places
+pub mod Faults
+pub mod Refusals
+pub mod Worked

@@ -1,0 +1,2 @@
+//! Scripts, from their bytes.
+#![tactic(auto)]
