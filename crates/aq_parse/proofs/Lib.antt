@@ -1,0 +1,6 @@
+pub mod Joining
+pub mod ColumnConstraints
+pub mod FewerTokens
+pub mod Blocks
+pub mod Levels
+pub mod TooLong

@@ -1,0 +1,25 @@
+//! Statements, from their tokens.
+#![tactic(auto)]
+
+mod atom;
+mod bodies;
+mod column_constraints;
+mod columns;
+mod delete;
+mod expression;
+mod insert;
+mod modes;
+mod operators;
+mod references;
+mod rows;
+mod select;
+mod statements;
+mod tables;
+mod timing;
+mod transactions;
+mod triggers;
+mod update;
+mod whole;
+mod words;
+
+pub use statements::{Place, statement};
