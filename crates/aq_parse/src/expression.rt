@@ -108,9 +108,6 @@ fn null_or_distinct<'a>(alloc: Global, scope: Scope, tokens: &Lexed<'a>) -> Read
 
 /// A comparison, of which something is told behind IS.
 #[cycle(expression)]
-#[tactic(
-// IS [NOT] NULL, IS [NOT] DISTINCT FROM
-auto, unfolding(aq_grammar::specs::Expressions::test))]
 fn test<'a>(alloc: Global, scope: Scope, tokens: &Lexed<'a>) -> Read<'a, Expr>
     ensures { Gives (λ x. x) result (reads (test scope) tokens.now) }
 {

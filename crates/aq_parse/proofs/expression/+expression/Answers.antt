@@ -234,6 +234,10 @@ test-tests-smaller t c =
     (both_read (λ negated right. (negated, right)) negated (null_or_distinct c.args.scope) c.rest-behind.result c.in_ok-is_negated.behind c.in_ok-right.after
     c.in_ok-is_negated.is_negated c.in_ok-right.right c.in_ok-is_negated.ensures c.in_ok-right.ensures)
 
+pub test-returns-in_err-operand : goal.test-returns-in_err-operand
+unfolding test
+test-returns-in_err-operand t c = search rules
+
 pub test-returns-in_err-is_negated : goal.test-returns-in_err-is_negated
 unfolding test is_test
 test-returns-in_err-is_negated t c =
