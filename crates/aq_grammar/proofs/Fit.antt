@@ -1,13 +1,13 @@
 -- One token of lookahead is enough to read every rule of the grammar.
-use Rattle.std.proofs.Common.{◌≡◌, refl, ℕ, zero, suc, Bool, true, false, List, [], ◌∷◌, ◌++◌}
-use Rattle.aq_grammar.specs.Rules.{Nonterminal, Rule, Expression, Block, ColumnConstraints, ReferenceEnd}
+use Rattle.std.proofs.Common.{◌≡◌, refl, ℕ, zero, suc, Bool, true, false, List, [], ◌∷◌}
+use Rattle.aq_grammar.specs.Rules.{Nonterminal, Expression, Block, ColumnConstraints, ReferenceEnd}
 use Rattle.aq_grammar.specs.declared.scope.Scope.{Scope}
 use Rattle.aq_grammar.specs.declared.scope.Scope.TheVariants.{InStatement, InCondition, InCode}
-use Rattle.aq_grammar.specs.Sets.{Marks, marks_by, is_fit_by}
+use Rattle.aq_grammar.specs.Sets.{marks_by, is_fit_by}
 use Rattle.aq_grammar.specs.Nonterminals.{rules, marks}
 use Rattle.aq_grammar.specs.Terminals.{Terminal, fits, is_of}
 use Rattle.aq_grammar.specs.Calls.{AreFit}
-use Rattle.std.specs.List.{list_all, list_any}
+use Rattle.std.specs.List.{list_any}
 use Rattle.std.proofs.Common.{◌∙◌, ◌&&◌, sym, inl, inr}
 use Rattle.std.proofs.lemmas.Bool.{and_parts, or_cases, or_left, or_right}
 use Rattle.aq_lex.specs.Lexemes.{PlacedLexeme}

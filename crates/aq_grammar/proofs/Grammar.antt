@@ -3,7 +3,6 @@ use Rattle.std.proofs.Common.{◌≡◌, true, List}
 use Rattle.aq_lex.specs.Lexemes.{PlacedLexeme}
 use Rattle.aq_grammar.specs.Rules.{Nonterminal, Rule}
 use Rattle.aq_grammar.specs.Sets.{is_fit_by}
-use Rattle.aq_grammar.specs.Calls.{called}
 use Rattle.aq_grammar.specs.Nonterminals.{rules, marks, reads_called, reads, Spells, Bars}
 use Rattle.aq_grammar.proofs.Languages.{IsRight}
 use Rattle.aq_grammar.proofs.Fuel.{called_reads}

@@ -1,10 +1,10 @@
 -- What a form keeps whose first tokens are known, and what reading it comes to. Both are said of any form, whatever its rule.
-use Rattle.std.specs.Prelude.{◌≡◌, ℕ, Bool, true, false, List, [], ◌∷◌, ◌++◌}
+use Rattle.std.specs.Prelude.{◌≡◌, true, false, List, [], ◌∷◌, ◌++◌}
 use Rattle.aq_base.specs.declared.fault.SqlFault.{SqlFault}
 use Rattle.aq_lex.specs.Lexemes.{PlacedLexeme}
 use Rattle.aq_grammar.specs.Terminals.{is_of, begins}
 use Rattle.aq_grammar.specs.Rules.{Form, Bar, Begins}
-use Rattle.aq_grammar.specs.Reading.{Outcome, Read, Stop, Reason, Syntax, Refused}
+use Rattle.aq_grammar.specs.Reading.{Outcome, Read, Stop, Syntax, Refused}
 use Rattle.aq_grammar.specs.Sets.{Marks}
 use Rattle.aq_grammar.specs.Places.{IsClear, IsStuck, IsRead}
 

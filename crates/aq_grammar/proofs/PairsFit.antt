@@ -4,7 +4,7 @@ use Rattle.std.proofs.lemmas.Bool.{or_left}
 use Rattle.aq_base.specs.declared.statement.Statement.{Statement}
 use Rattle.aq_lex.specs.declared.token.Symbol.TheVariants.{OpenParen}
 use Rattle.aq_lex.specs.Lexemes.{PlacedLexeme}
-use Rattle.aq_grammar.specs.Terminals.{Terminal, Sign, fits, is_of}
+use Rattle.aq_grammar.specs.Terminals.{Sign, fits, is_of}
 use Rattle.aq_grammar.specs.Rules.{Nonterminal, Rule, Begins, Expression, Block, ColumnConstraints, ReferenceEnd}
 use Rattle.aq_grammar.specs.declared.scope.Scope.{Scope}
 use Rattle.aq_grammar.specs.declared.scope.Scope.TheVariants.{InStatement, InCondition, InCode}

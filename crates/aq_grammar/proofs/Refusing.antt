@@ -1,5 +1,5 @@
 -- A function that refuses tokens, against the list of what is refused.
-use Rattle.std.proofs.Common.{◌≡◌, Bool, true, false, List, [], ◌∷◌, ◌++◌, drop, ◌&&◌, ◌||◌, ◌==◌, ℕ, zero, suc, codes, map, if◌then◌else◌, Option, Some, None, Result, Ok, Err, refl, sym, ap, ◌∙◌, subst}
+use Rattle.std.proofs.Common.{◌≡◌, Bool, true, false, List, [], ◌∷◌, ◌++◌, drop, ◌&&◌, ◌||◌, codes, map, if◌then◌else◌, Option, Some, None, Result, Ok, Err, refl, sym, ap, ◌∙◌, subst}
 use Rattle.std.specs.List.{list_any}
 use Rattle.std.proofs.lemmas.List.Folds.{list_any-append}
 use Rattle.aq_base.specs.Names.{Text as Bytes}
@@ -14,7 +14,7 @@ use Rattle.aq_grammar.specs.Rules.{refused}
 use Rattle.aq_grammar.specs.Reading.{}
 use Rattle.aq_grammar.specs.declared.fault.ReadFault.{ReadFault}
 use Rattle.aq_grammar.specs.declared.fault.ReadFault.TheVariants.{NoMemory, Syntax, Refused}
-use Rattle.aq_grammar.specs.Steps.{IsFaultOr, IsRefusalOf, RefusesSo, table_then, alters}
+use Rattle.aq_grammar.specs.Steps.{IsFaultOr, IsRefusalOf, RefusesSo, alters}
 
 -- a fault is the one that the list tells
 pub refuses_as : (refusals : List Refusal) (tokens : List PlacedLexeme) (fault : SqlFault) (found : ReadFault) → refused refusals tokens ≡ Some fault

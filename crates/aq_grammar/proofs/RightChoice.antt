@@ -3,7 +3,7 @@ use Rattle.std.proofs.Common.{◌≡◌, Bool, true, false, cond, List, [], ◌�
 use Rattle.std.proofs.lemmas.List.{append_assoc}
 use Rattle.aq_base.specs.declared.fault.SqlFault.{SqlFault}
 use Rattle.aq_lex.specs.Lexemes.{PlacedLexeme}
-use Rattle.aq_grammar.specs.Terminals.{Terminal, is_of, begins, begin_with}
+use Rattle.aq_grammar.specs.Terminals.{Terminal, is_of, begins}
 use Rattle.aq_grammar.specs.Rules.{Form, Bar, Begins, Refusal, IsRefused, BarsHere}
 use Rattle.aq_grammar.specs.Rules.{refused}
 use Rattle.aq_grammar.specs.Reading.{Outcome, Read, Stop, Syntax, Refused, Reader, stop_or, read_either, read_unless}

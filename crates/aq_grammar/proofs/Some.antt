@@ -1,9 +1,7 @@
 -- Every rule that leads back to itself spells something.
-use Rattle.std.proofs.Common.{◌≡◌, refl, ℕ, zero, suc, Bool, true, false, List, [], ◌∷◌, ◌++◌, inl, inr}
+use Rattle.std.proofs.Common.{refl, ℕ, zero, Bool, List, [], ◌∷◌, inl, inr}
 use Rattle.aq_lex.specs.Lexemes.{PlacedLexeme, Integer}
-use Rattle.aq_base.specs.declared.expr.Expr.{Expr}
-use Rattle.aq_base.specs.declared.constraint.ColumnConstraint.{ColumnConstraint}
-use Rattle.aq_grammar.specs.Rules.{Nonterminal, ValueOf, Form, Rule, SpellsBy, SpellsBoth, SpellsMany, Expression, Block, ColumnConstraints, ReferenceEnd}
+use Rattle.aq_grammar.specs.Rules.{Nonterminal, ValueOf, Form, Rule, SpellsBy, Expression, Block, ColumnConstraints, ReferenceEnd}
 use Rattle.aq_grammar.specs.declared.scope.Scope.{Scope}
 use Rattle.aq_grammar.specs.Calls.{Called, CalledWithin}
 use Rattle.aq_grammar.specs.Nonterminals.{rules}

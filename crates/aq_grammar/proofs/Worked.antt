@@ -1,17 +1,15 @@
 -- The grammar on small statements: what is read, and what is refused where.
-use Rattle.std.proofs.Common.{◌≡◌, refl, ℕ, zero, suc, pos, Bool, true, false, List, [], ◌∷◌, ◌++◌, length, take, drop, Option, Some, None, codes}
+use Rattle.std.proofs.Common.{◌≡◌, refl, ℕ, zero, suc, pos, false, List, [], ◌∷◌, length, take, drop, Option, Some, None, codes}
 use Rattle.aq_base.specs.declared.value.Value.TheVariants.{Int}
 use Rattle.aq_base.specs.declared.expr.Comparison.TheVariants.{Equal}
 use Rattle.aq_base.specs.declared.expr.Expr.TheVariants.{Constant, Column, Multiply, Add, Compare, Not, And}
 use Rattle.aq_base.specs.declared.data.Columns.TheVariants.{All}
-use Rattle.aq_base.specs.declared.statement.Statement.{Statement}
 use Rattle.aq_base.specs.declared.statement.Statement.TheVariants.{Select}
 use Rattle.aq_lex.specs.declared.piece.Piece.{Piece}
 use Rattle.aq_lex.specs.declared.piece.Piece.TheVariants.{Blank, Comment, Token}
 use Rattle.aq_lex.specs.Lexing.{piece_at}
 use Rattle.aq_lex.specs.Lexemes.{PlacedLexeme, lexeme_of}
-use Rattle.aq_grammar.specs.Rules.{Rule}
-use Rattle.aq_grammar.specs.Reading.{Outcome, Read, Stop, Syntax, Refused}
+use Rattle.aq_grammar.specs.Reading.{Read, Stop, Syntax, Refused}
 use Rattle.aq_grammar.specs.Nonterminals.{reads, reads_called, rules}
 use Rattle.aq_lex.specs.declared.token.Symbol.TheVariants.{Semicolon}
 use Rattle.aq_grammar.specs.Forms.{◌◂◌, sign, name, names, public_name, unsupported}

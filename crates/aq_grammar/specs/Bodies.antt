@@ -2,17 +2,16 @@
 --     code      = $$ BEGIN {statement ;} END [;] $$
 --     statement = IF expression THEN {statement ;} {ELSIF expression THEN {statement ;}} [ELSE {statement ;}] END IF
 --               | RAISE EXCEPTION text | RETURN (NULL | NEW | OLD) | insert | update | delete | set
-use Rattle.std.specs.Prelude.{ℕ, zero, suc, List, [], ◌∷◌, Option, Some, None, codes}
+use Rattle.std.specs.Prelude.{ℕ, zero, suc, List, [], ◌∷◌, Option, codes}
 use Rattle.aq_lex.specs.declared.token.Symbol.TheVariants.{Semicolon, DollarQuote}
 use Rattle.aq_grammar.specs.Terminals.{Terminal, Keyword, Message, Sign, text_of}
-use Rattle.aq_grammar.specs.Rules.{Rule, Refusal, Done, Token, Both, Either, Many, Call, Block}
+use Rattle.aq_grammar.specs.Rules.{Rule, Refusal, Token, Both, Either, Many, Call, Block}
 use Rattle.aq_grammar.specs.declared.scope.Scope.TheVariants.{InCode}
 use Rattle.aq_grammar.specs.Forms.{word, sign, ◌▸◌, ◌◂◌, mapped, says, optional, limit, refuse_word}
 use Rattle.aq_grammar.specs.Expressions.{whole_expression}
 use Rattle.aq_grammar.specs.Changes.{insert, update, delete, set_constraints}
 use Rattle.aq_base.specs.declared.expr.Expr.{Expr}
 use Rattle.aq_base.specs.declared.body.BodyStatement.{BodyStatement}
-use Rattle.aq_base.specs.declared.body.Returned.{Returned}
 use Rattle.aq_base.specs.declared.body.ElseIf.{ElseIf}
 use Rattle.aq_base.specs.declared.body.BodyStatement.TheVariants.{If, Raise, Return, Insert as Insert_in_body, Update as Update_in_body, Delete as Delete_in_body, SetConstraints as Set_in_body}
 use Rattle.aq_base.specs.declared.body.Returned.TheVariants.{Null as Null_row, New as New_row, Old as Old_row}

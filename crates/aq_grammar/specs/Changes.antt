@@ -5,11 +5,11 @@
 --     delete    = DELETE FROM table [WHERE expression]
 --     select    = SELECT (* | columns) FROM table [WHERE expression] [FOR (UPDATE | NO KEY UPDATE | SHARE | KEY SHARE)]
 --     set       = SET CONSTRAINTS (ALL | constraint {, constraint}) (DEFERRED | IMMEDIATE)
-use Rattle.std.specs.Prelude.{ℕ, List, [], ◌∷◌, ◌++◌, Option, Some, None, codes}
+use Rattle.std.specs.Prelude.{List, [], ◌∷◌, Option, codes}
 use Rattle.aq_base.specs.Names.{Text as Bytes}
 use Rattle.aq_lex.specs.declared.token.Symbol.TheVariants.{OpenParen, Comma, Times, Equal}
-use Rattle.aq_grammar.specs.Terminals.{Terminal, Keyword, Sign}
-use Rattle.aq_grammar.specs.Rules.{Rule, Refusal, Done, Both, Either, Unless}
+use Rattle.aq_grammar.specs.Terminals.{Keyword, Sign}
+use Rattle.aq_grammar.specs.Rules.{Rule, Refusal, Both, Either, Unless}
 use Rattle.aq_grammar.specs.declared.scope.Scope.{Scope}
 use Rattle.aq_grammar.specs.Forms.{word, sign, ◌▸◌, ◌◂◌, mapped, nothing, says, optional, listed, in_parentheses, name, names, public_name, refuse, refuse_word}
 use Rattle.aq_grammar.specs.Expressions.{whole_expression}

@@ -8,15 +8,14 @@
 --                | OLD.column | NEW.column in conditions of triggers and in code | TG_OP in code
 use Rattle.std.specs.Prelude.{ℕ, pos, Bool, true, false, List, [], ◌∷◌, Option, Some, None, codes}
 use Rattle.aq_base.specs.Names.{Text as Bytes}
-use Rattle.aq_base.specs.declared.value.Value.{Value}
 use Rattle.aq_base.specs.declared.value.Value.TheVariants.{Null, Bool as Truth, Int, Text as Words}
 use Rattle.aq_lex.specs.declared.token.Symbol.{Symbol}
-use Rattle.aq_lex.specs.declared.token.Symbol.TheVariants.{OpenParen, CloseParen, Dot, Plus, Minus, Times, Equal, Unequal, Less, AtMost, Greater, AtLeast}
-use Rattle.aq_grammar.specs.Terminals.{Terminal, Keyword, Name, NameOf, NameBut, Number, Literal, LiteralInCode, Sign, text_of, number_of}
+use Rattle.aq_lex.specs.declared.token.Symbol.TheVariants.{OpenParen, Dot, Plus, Minus, Times, Equal, Unequal, Less, AtMost, Greater, AtLeast}
+use Rattle.aq_grammar.specs.Terminals.{Terminal, Keyword, NameOf, NameBut, Number, Literal, LiteralInCode, Sign, text_of, number_of}
 use Rattle.aq_grammar.specs.Rules.{Rule, Done, Token, Both, Either, Many, Call, Limited, Expression}
 use Rattle.aq_grammar.specs.declared.scope.Scope.{Scope}
 use Rattle.aq_grammar.specs.declared.scope.Scope.TheVariants.{InStatement, InCondition, InCode}
-use Rattle.aq_grammar.specs.Forms.{word, sign, ◌▸◌, ◌◂◌, mapped, says, optional, in_parentheses, name, limit}
+use Rattle.aq_grammar.specs.Forms.{word, sign, ◌▸◌, mapped, says, optional, in_parentheses, name, limit}
 use Rattle.aq_base.specs.declared.expr.Expr.{Expr}
 use Rattle.aq_base.specs.declared.expr.Comparison.{Comparison}
 use Rattle.aq_base.specs.declared.expr.Expr.TheVariants.{Constant, Column, Qualified, Old, New, Operation, Negate, Multiply, Add, Subtract, Compare, IsNull, IsNotNull, IsDistinct, IsNotDistinct, Not, And, Or}

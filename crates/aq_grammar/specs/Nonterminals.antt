@@ -1,5 +1,5 @@
 -- The rules that lead back to themselves, and the tokens with which they begin and go on.
-use Rattle.std.specs.Prelude.{ℕ, zero, suc, Bool, true, false, List, [], ◌∷◌, ◌++◌, codes}
+use Rattle.std.specs.Prelude.{true, false, List, [], ◌∷◌, codes}
 use Rattle.aq_lex.specs.declared.token.Symbol.TheVariants.{OpenParen, CloseParen, Semicolon, Dot}
 use Rattle.aq_grammar.specs.Terminals.{Terminal, Keyword, Name, NameOf, NameBut, Number, Literal, Sign}
 use Rattle.aq_grammar.specs.Rules.{Nonterminal, ValueOf, Rule, Expression, Block, ColumnConstraints, ReferenceEnd}

@@ -1,6 +1,6 @@
 -- Which token of a text is refused, and with which fault: the first that passes a limit, or through which the tokens begin no form, or at
 -- which a form begins that is known and not supported.
-use Rattle.std.specs.Prelude.{◌≡◌, ℕ, ◌^◌, Bool, true, false, List, [], ◌∷◌, ◌++◌, Option, Some, None, codes, nat_lt, if◌then◌else◌, ◌⊎◌}
+use Rattle.std.specs.Prelude.{◌≡◌, ◌^◌, Bool, true, false, List, [], ◌∷◌, ◌++◌, Option, Some, None, codes, nat_lt, if◌then◌else◌, ◌⊎◌}
 use Rattle.aq_base.specs.Names.{Text as Bytes, is_short}
 use Rattle.aq_base.specs.declared.fault.SqlFault.{SqlFault}
 use Rattle.aq_lex.specs.declared.token.Symbol.TheVariants.{OpenParen}

@@ -1,9 +1,9 @@
 -- Reading a rule from left to right.
-use Rattle.std.specs.Prelude.{◌≡◌, ℕ, zero, suc, ◌-◌, Bool, true, false, List, [], ◌∷◌, length, take, drop, Option, Some, None, if◌then◌else◌, nat_le}
+use Rattle.std.specs.Prelude.{ℕ, zero, suc, ◌-◌, List, [], ◌∷◌, length, take, drop, Option, Some, None, if◌then◌else◌, nat_le}
 use Rattle.aq_base.specs.Names.{Text as Bytes}
 use Rattle.aq_base.specs.declared.fault.SqlFault.{SqlFault}
 use Rattle.aq_lex.specs.Lexemes.{PlacedLexeme}
-use Rattle.aq_grammar.specs.Terminals.{Terminal, NameBut, fits, begins, begin_with, text_of}
+use Rattle.aq_grammar.specs.Terminals.{Terminal, NameBut, fits, begins, text_of}
 use Rattle.aq_grammar.specs.Rules.{Nonterminal, ValueOf, Refusal, Rule, Done, Token, Both, Either, Many, Differing, Call, Unless, Limited, refused}
 
 -- why reading stops: no rule goes on with what comes, or it is refused

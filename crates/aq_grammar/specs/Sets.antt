@@ -1,5 +1,5 @@
 -- With which tokens a rule begins and goes on, and that one token of lookahead is enough to read it (an LL(1) grammar).
-use Rattle.std.specs.Prelude.{ℕ, Bool, true, false, not, ◌&&◌, ◌||◌, ◌==◌, List, [], ◌∷◌, ◌++◌, if◌then◌else◌, nat_le}
+use Rattle.std.specs.Prelude.{Bool, true, false, not, ◌&&◌, ◌||◌, List, [], ◌∷◌, ◌++◌, if◌then◌else◌, nat_le}
 use Rattle.std.specs.List.{list_all}
 use Rattle.aq_base.specs.Names.{Text as Bytes, same_text, is_short}
 use Rattle.aq_lex.specs.declared.token.Symbol.{Symbol}

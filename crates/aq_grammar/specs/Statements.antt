@@ -1,5 +1,5 @@
 -- The statements of the setup section and those of a session.
-use Rattle.std.specs.Prelude.{List, [], ◌∷◌, ◌++◌, codes, flat_map, map}
+use Rattle.std.specs.Prelude.{List, [], ◌∷◌, ◌++◌, codes, map}
 use Rattle.aq_base.specs.Names.{Text as Bytes}
 use Rattle.aq_lex.specs.declared.token.Symbol.TheVariants.{Dot}
 use Rattle.aq_grammar.specs.Terminals.{Terminal, Keyword, NameOf, Name, Sign}

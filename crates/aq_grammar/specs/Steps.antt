@@ -1,17 +1,14 @@
 -- What a function of the parser returned, against what is read by a rule.
 use Rattle.std.specs.Prelude.{◌≡◌, ℕ, Bool, true, false, ◌&&◌, ◌||◌, List, [], ◌∷◌, length, drop, Option, Some, None, Result, Ok, Err, codes, if◌then◌else◌}
 use Rattle.aq_base.specs.Names.{Text as Bytes}
-use Rattle.aq_base.specs.declared.expr.Expr.{Expr}
 use Rattle.aq_base.specs.declared.fault.SqlFault.{SqlFault}
 use Rattle.aq_lex.specs.Lexemes.{PlacedLexeme, first_text}
 use Rattle.aq_lex.specs.declared.token.Symbol.TheVariants.{Comma, Dot}
 use Rattle.aq_grammar.specs.Terminals.{Terminal, Keyword, Name, NameOf, Sign, Count, begins, begin_with, fits, number_of}
 use Rattle.aq_grammar.specs.Rules.{Refusal, refused}
-use Rattle.aq_grammar.specs.Expressions.{from_left}
 use Rattle.aq_grammar.specs.Forms.{sign}
 use Rattle.aq_grammar.specs.Nonterminals.{reads}
-use Rattle.aq_grammar.specs.Rules.{refused}
-use Rattle.aq_grammar.specs.Reading.{Outcome, Read, Stop, Reader, ◌>>=◌, read_both, read_many, Syntax as Syntax_, Refused as Refused_}
+use Rattle.aq_grammar.specs.Reading.{Outcome, Read, Stop, Reader, read_both, read_many, Syntax as Syntax_, Refused as Refused_}
 use Rattle.aq_grammar.specs.declared.fault.ReadFault.{ReadFault}
 use Rattle.aq_grammar.specs.declared.fault.ReadFault.TheVariants.{NoMemory, Syntax, Refused}
 
@@ -34,10 +31,6 @@ read_next reader tokens = read_both (λ x y. y) (reads (sign Comma)) (λ x. read
 unfoldable pub read_listed : {A : Type 0} → Reader A → Reader (List A)
 read_listed reader tokens =
     read_both (λ x others. x ∷ others) reader (λ x. read_many (Sign Comma ∷ []) [] (λ others. others) (read_next reader)) tokens
-
--- operators with their right operands, as many as stand there, behind a first operand and from the left
-abbrev pub read_chain : {A : Type 0} → (Expr → A → Expr) → List Terminal → Reader A → Expr → Reader Expr
-read_chain joined kinds reader first tokens = read_many kinds [] (λ others. others) reader tokens >>= λ others rest. Read (from_left joined first others) rest
 
 -- the text of the first token, where it is of a kind
 abbrev pub first_text_of : Terminal → List PlacedLexeme → Option Bytes

@@ -10,15 +10,15 @@
 --     timing     = NOT DEFERRABLE [INITIALLY IMMEDIATE] | DEFERRABLE [INITIALLY (IMMEDIATE | DEFERRED)] | INITIALLY (IMMEDIATE | DEFERRED)
 -- A column's NOT behind its REFERENCES begins NOT NULL or NOT DEFERRABLE. So that the next token always tells how to go on, what comes
 -- behind a column's constraint is one form: the timing and the constraints that follow.
-use Rattle.std.specs.Prelude.{ℤ, pos, neg_ℤ, Bool, true, false, List, [], ◌∷◌, ◌++◌, Option, Some, None, codes}
+use Rattle.std.specs.Prelude.{ℤ, pos, neg_ℤ, Bool, true, false, List, [], ◌∷◌, Option, Some, None, codes}
 use Rattle.aq_base.specs.Names.{Text as Bytes}
 use Rattle.aq_base.specs.declared.catalog.Decl.{Decl}
 use Rattle.aq_base.specs.declared.value.Value.{Value}
 use Rattle.aq_base.specs.declared.value.Value.TheVariants.{Null, Bool as Truth, Int, Text as Words}
-use Rattle.aq_lex.specs.declared.token.Symbol.TheVariants.{OpenParen, CloseParen, Minus}
-use Rattle.aq_grammar.specs.Terminals.{Terminal, Keyword, NameOf, Name, Number, Literal, Sign, text_of, number_of}
+use Rattle.aq_lex.specs.declared.token.Symbol.TheVariants.{OpenParen, Minus}
+use Rattle.aq_grammar.specs.Terminals.{Terminal, Keyword, Number, Literal, Sign, text_of, number_of}
 use Rattle.aq_grammar.specs.Rules.{Rule, Refusal, Done, Token, Both, Either, Call, Unless, ColumnConstraints, ReferenceEnd}
-use Rattle.aq_grammar.specs.Forms.{word, sign, ◌▸◌, ◌◂◌, mapped, says, optional, listed, in_parentheses, name, names, public_name, refuse, refuse_word}
+use Rattle.aq_grammar.specs.Forms.{word, sign, ◌▸◌, mapped, says, optional, listed, in_parentheses, name, names, public_name, refuse, refuse_word}
 use Rattle.aq_grammar.specs.Changes.{column_list, end_without}
 use Rattle.aq_base.specs.declared.script.Kind.{Kind}
 use Rattle.aq_base.specs.declared.constraint.Match.{Match}

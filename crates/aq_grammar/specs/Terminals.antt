@@ -1,6 +1,6 @@
 -- The kinds of tokens that the rules of the grammar name.
-use Rattle.std.specs.Prelude.{ℕ, Bool, true, false, not, ◌&&◌, ◌||◌, ◌==◌, ◌^◌, List, [], ◌∷◌, length, nat_le, nat_lt, nat_eq, codes, if◌then◌else◌}
-use Rattle.std.specs.List.{list_all, list_any, starts_with}
+use Rattle.std.specs.Prelude.{ℕ, Bool, true, false, not, ◌&&◌, ◌||◌, ◌==◌, ◌^◌, List, [], ◌∷◌, length, nat_le, nat_lt, nat_eq, codes}
+use Rattle.std.specs.List.{list_any, starts_with}
 use Rattle.aq_base.specs.Names.{Text as Bytes, same_text, is_reserved, is_short}
 use Rattle.aq_lex.specs.declared.token.Symbol.{Symbol}
 use Rattle.aq_lex.specs.declared.token.Symbol.TheVariants.{OpenParen, CloseParen, Comma, Semicolon, Dot, Plus, Minus, Times, Equal, Unequal, Less, AtMost, Greater, AtLeast, DollarQuote}

@@ -2,15 +2,15 @@
 --     begin = (BEGIN [WORK | TRANSACTION] | START TRANSACTION) [ISOLATION LEVEL (READ COMMITTED | READ UNCOMMITTED | REPEATABLE READ)]
 --     end   = (COMMIT | END | ROLLBACK | ABORT) [WORK | TRANSACTION] | SAVEPOINT name | RELEASE [SAVEPOINT] name
 --           | ROLLBACK [WORK | TRANSACTION] TO [SAVEPOINT] name
-use Rattle.std.specs.Prelude.{List, [], ◌∷◌, Option, Some, None, codes}
+use Rattle.std.specs.Prelude.{[], ◌∷◌, Option, codes}
 use Rattle.aq_base.specs.Names.{Text as Bytes}
-use Rattle.aq_grammar.specs.Terminals.{Terminal, Keyword}
-use Rattle.aq_grammar.specs.Rules.{Rule, Refusal, Done, Both, Either, Unless}
+use Rattle.aq_grammar.specs.Terminals.{Keyword}
+use Rattle.aq_grammar.specs.Rules.{Rule, Refusal, Done, Either, Unless}
 use Rattle.aq_grammar.specs.Forms.{word, ◌▸◌, mapped, says, optional, name, refuse}
 use Rattle.aq_base.specs.declared.statement.Isolation.{Isolation}
 use Rattle.aq_base.specs.declared.statement.Statement.{Statement}
 use Rattle.aq_base.specs.declared.statement.Isolation.TheVariants.{ReadCommitted, RepeatableRead}
-use Rattle.aq_base.specs.declared.statement.Statement.TheVariants.{Begin, StartTransaction, Commit, Rollback, Savepoint, Release, RollbackTo}
+use Rattle.aq_base.specs.declared.statement.Statement.TheVariants.{Begin, StartTransaction, Rollback, Savepoint, Release, RollbackTo}
 
 -- WORK or TRANSACTION, which say nothing
 unfoldable pub work : Rule (Option (Unit {0}))

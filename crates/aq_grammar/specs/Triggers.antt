@@ -10,7 +10,7 @@ use Rattle.std.specs.Prelude.{List, [], ◌∷◌, Option, Some, None, codes}
 use Rattle.aq_base.specs.Names.{Text as Bytes}
 use Rattle.aq_base.specs.declared.catalog.Decl.{Decl}
 use Rattle.aq_lex.specs.declared.token.Symbol.TheVariants.{OpenParen, CloseParen}
-use Rattle.aq_grammar.specs.Terminals.{Terminal, Keyword}
+use Rattle.aq_grammar.specs.Terminals.{Keyword}
 use Rattle.aq_grammar.specs.Rules.{Rule, Refusal, Done, Both, Either, Differing, Unless}
 use Rattle.aq_grammar.specs.declared.scope.Scope.TheVariants.{InCondition}
 use Rattle.aq_grammar.specs.Forms.{word, sign, ◌▸◌, ◌◂◌, mapped, says, optional, in_parentheses, name, names, public_name, refuse_word}
@@ -18,7 +18,6 @@ use Rattle.aq_grammar.specs.Expressions.{whole_expression}
 use Rattle.aq_grammar.specs.Bodies.{code}
 use Rattle.aq_grammar.specs.Tables.{timing_without}
 use Rattle.aq_base.specs.declared.expr.Expr.{Expr}
-use Rattle.aq_base.specs.declared.body.BodyStatement.{BodyStatement}
 use Rattle.aq_base.specs.declared.trigger.TriggerEvent.{TriggerEvent}
 use Rattle.aq_base.specs.declared.trigger.Transition.{Transition}
 use Rattle.aq_base.specs.declared.trigger.TransitionTable.{TransitionTable}

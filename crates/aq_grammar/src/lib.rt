@@ -2,17 +2,14 @@
 //! The rules are definitions, in `specs/`. The code reads single tokens, and forms one after the other.
 #![tactic(auto)]
 
-mod chaining;
 mod fault;
 mod listing;
 mod naming;
 mod prefixes;
 mod refusal;
-mod repeating;
 mod scope;
 mod terminals;
 
-pub use chaining::{Operator, chain};
 pub use fault::ReadFault;
 pub use listing::{Form, listed};
 pub use naming::names;
@@ -21,10 +18,8 @@ pub use refusal::{
     passes_limit, refuse_behind_insert, refuse_behind_items, refuse_behind_key,
     refuse_behind_reference, refuse_in_code, refuse_in_session, refuse_in_setup, refuse_joins,
     refuse_no_wait, refuse_not_after, refuse_not_valid, refuse_other_constraints,
-    refuse_other_items, refuse_partial_match, refuse_returning, refuse_serializable,
-    refuse_unsupported_statements, unsupported,
+    refuse_other_items, refuse_partial_match, refuse_returning, refuse_serializable, unsupported,
 };
-pub use repeating::{Repeated, many};
 pub use scope::Scope;
 pub use terminals::{
     Read, are_words, count, heading, is_heading, is_literal, is_name, is_name_of, is_number,

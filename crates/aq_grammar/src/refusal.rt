@@ -101,7 +101,7 @@ pub fn refuse_no_wait(alloc: Global, tokens: &Lexed<'_>) -> Result<(), ReadFault
 
 /// Statements that stand nowhere.
 #[tactic(auto, unfolding(crate::specs::Steps::RefusesSo), using(crate::proofs::Refusing::refuses_as))]
-pub fn refuse_unsupported_statements(alloc: Global, tokens: &Lexed<'_>) -> Result<(), ReadFault>
+fn refuse_unsupported_statements(alloc: Global, tokens: &Lexed<'_>) -> Result<(), ReadFault>
     ensures { RefusesSo unsupported_statements result tokens.now }
 {
     if is_word(tokens, b"truncate") {
