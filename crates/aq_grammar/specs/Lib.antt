@@ -11,6 +11,7 @@ pub mod Transactions
 pub mod Tables
 pub mod Triggers
 pub mod Places
+pub mod Stopping
 pub mod Statements
 pub mod Calls
 pub mod Nonterminals

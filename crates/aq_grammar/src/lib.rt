@@ -5,6 +5,7 @@
 mod fault;
 mod listing;
 mod naming;
+mod place;
 mod prefixes;
 mod refusal;
 mod scope;
@@ -13,6 +14,7 @@ mod terminals;
 pub use fault::ReadFault;
 pub use listing::{Form, listed};
 pub use naming::names;
+pub use place::{RefusedPlace, refused_place};
 pub use prefixes::{behind_nots, behind_signs, nots, signs};
 pub use refusal::{
     passes_limit, refuse_behind_insert, refuse_behind_items, refuse_behind_key,

@@ -12,7 +12,8 @@ use Rattle.aq_grammar.proofs.Languages.{IsStopped}
 use Rattle.aq_grammar.proofs.RightForms.{begins_whole}
 use Rattle.aq_grammar.proofs.RefusedAt.{token_fault, refused_here, refused_before, one_place, none_in_whole}
 use Rattle.aq_script.specs.Sections.{SpellsScript, BarsScript}
-use Rattle.aq_script.specs.Parsing.{whole_script, or_own, syntax_fault, fault_of, one_before, refused_place}
+use Rattle.aq_grammar.specs.Stopping.{or_own, syntax_fault, fault_of, one_before, refused_place}
+use Rattle.aq_script.specs.Parsing.{whole_script}
 use Rattle.aq_script.proofs.Whole.{StopsAt, whole_stopped}
 use Rattle.aq_script.proofs.Ends.{script_free_at_end, script_short, script_barred_short}
 use Rattle.aq_script.proofs.Subqueries.{no_subquery_begun}

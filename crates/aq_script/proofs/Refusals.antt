@@ -7,7 +7,8 @@ use Rattle.aq_grammar.specs.Reading.{Outcome, Read, Stop, Reason}
 use Rattle.aq_grammar.specs.Places.{IsClear, IsRefusedAt}
 use Rattle.aq_grammar.proofs.RefusedAt.{one_fault}
 use Rattle.aq_script.specs.Sections.{SpellsScript, BarsScript}
-use Rattle.aq_script.specs.Parsing.{whole_script, refused_place}
+use Rattle.aq_grammar.specs.Stopping.{refused_place}
+use Rattle.aq_script.specs.Parsing.{whole_script}
 use Rattle.aq_script.proofs.Whole.{IsWholeRight, whole_right}
 use Rattle.aq_script.proofs.Places.{refused_so, one_refused_place, none_in_script}
 use Rattle.aq_script.proofs.Faults.{script_one}

@@ -19,7 +19,8 @@ use Rattle.aq_grammar.specs.Transactions as t
 use Rattle.aq_grammar.specs.Tables as k
 use Rattle.aq_grammar.specs.Triggers as g
 use Rattle.aq_script.specs.Sections.{item, schedule, repeated_name}
-use Rattle.aq_script.specs.Parsing.{whole_script, refused_place}
+use Rattle.aq_grammar.specs.Stopping.{refused_place}
+use Rattle.aq_script.specs.Parsing.{whole_script}
 
 found : ℕ → Option (Piece × ℕ) → List ℕ → List PlacedLexeme → List PlacedLexeme
 found line None bytes others = []

@@ -1,7 +1,6 @@
--- Reading a script from left to right, and the place at which one is refused.
-use Rattle.std.specs.Prelude.{ℕ, zero, suc, ◌+◌, ◌-◌, ◌&&◌, List, [], ◌∷◌, ◌++◌, length, drop, Option, Some, None, nat_lt, if◌then◌else◌}
+-- Reading a script from left to right.
+use Rattle.std.specs.Prelude.{ℕ, zero, suc, ◌+◌, List, [], ◌∷◌, ◌++◌, length, if◌then◌else◌}
 use Rattle.aq_base.specs.Names.{Text as Bytes}
-use Rattle.aq_base.specs.declared.fault.SqlFault.{SqlFault}
 use Rattle.aq_base.specs.declared.script.Placed.{Placed}
 use Rattle.aq_base.specs.declared.script.SessionText.{SessionText}
 use Rattle.aq_base.specs.declared.script.Script.{Script}
@@ -9,8 +8,7 @@ use Rattle.aq_lex.specs.declared.token.Directive.TheVariants.{Setup, Session}
 use Rattle.aq_lex.specs.Lexemes.{PlacedLexeme}
 use Rattle.aq_grammar.specs.Terminals.{Terminal, Heading, begins}
 use Rattle.aq_grammar.specs.Rules.{Refusal, refused}
-use Rattle.aq_grammar.specs.Reading.{Outcome, Read, Stop, Reason, Syntax, Refused, Reader, ◌>>=◌, stop_or, read_both, read_either, read_unless}
-use Rattle.aq_grammar.specs.Places.{own_fault, syntax_error, begins_subquery, subquery_fault}
+use Rattle.aq_grammar.specs.Reading.{Outcome, Read, Stop, Syntax, Reader, ◌>>=◌, stop_or, read_both, read_either, read_unless}
 use Rattle.aq_grammar.specs.Nonterminals.{reads}
 use Rattle.aq_script.specs.Sections.{Section, in_setup, in_session, kinds_of, ended, heading, session_name, schedule, script_of, refused_statements, refused_sessions, refused_names}
 
@@ -87,27 +85,3 @@ at_end x (token ∷ rest) = Stop Syntax (token ∷ rest)
 
 abbrev pub whole_script : List PlacedLexeme → Outcome Script
 whole_script tokens = read_script tokens >>= at_end
-
--- ---- the place that is refused
-
-abbrev pub or_own : Option SqlFault → SqlFault → SqlFault
-or_own None fault = fault
-or_own (Some own) fault = own
-
--- the fault of tokens with which no form goes on: that of a first token that is too long, or of a subquery
-abbrev pub syntax_fault : List PlacedLexeme → SqlFault
-syntax_fault [] = syntax_error
-syntax_fault (token ∷ rest) = or_own (own_fault token.lexeme) (if begins_subquery (token ∷ rest) then subquery_fault else syntax_error)
-
-abbrev pub fault_of : Reason → List PlacedLexeme → SqlFault
-fault_of Syntax rest = syntax_fault rest
-fault_of (Refused fault) rest = fault
-
--- the rest, with one token before it
-abbrev pub one_before : List PlacedLexeme → List PlacedLexeme → List PlacedLexeme
-one_before tokens rest = drop (length tokens - length rest - 1) tokens
-
--- the place in all tokens that is refused where reading stops at the rest, and its fault: a subquery is refused at its `(`
-abbrev pub refused_place : List PlacedLexeme → Reason → List PlacedLexeme → List PlacedLexeme × SqlFault
-refused_place tokens reason rest =
-    if nat_lt (length rest) (length tokens) && begins_subquery (one_before tokens rest) then (one_before tokens rest, subquery_fault) else (rest, fault_of reason rest)
