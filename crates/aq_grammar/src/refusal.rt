@@ -367,7 +367,7 @@ const SESSION_WORDS: [&str; 13] = [
 ];
 
 /// Whether a session's statement begins the tokens.
-fn is_session_word(tokens: &Lexed<'_>) -> bool
+pub fn is_session_word(tokens: &Lexed<'_>) -> bool
     ensures { result ≡ begins (map (λ text. Keyword text) session_words) tokens.now }
 {
     is_one_of(tokens, &SESSION_WORDS)

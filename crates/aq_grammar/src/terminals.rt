@@ -210,7 +210,7 @@ fn is_within(tokens: &Lexed<'_>, most: usize) -> bool
 const MAX_NAME: usize = 63;
 
 /// Whether the first token is an unreserved word of 63 bytes at the most.
-fn is_plain_name(tokens: &Lexed<'_>) -> bool
+pub fn is_plain_name(tokens: &Lexed<'_>) -> bool
     ensures { result ≡ begins (PlainName ∷ []) tokens.now }
 {
     match tokens.kind() {

@@ -10,7 +10,14 @@ use Rattle.aq_grammar.specs.Terminals.{Terminal, Heading, begins}
 use Rattle.aq_grammar.specs.Rules.{Refusal, refused}
 use Rattle.aq_grammar.specs.Reading.{Outcome, Read, Stop, Syntax, Reader, ◌>>=◌, stop_or, read_both, read_either, read_unless}
 use Rattle.aq_grammar.specs.Nonterminals.{reads}
+use Rattle.aq_parse.specs.declared.statements.Place.{Place}
+use Rattle.aq_parse.specs.declared.statements.Place.TheVariants as places
 use Rattle.aq_script.specs.Sections.{Section, in_setup, in_session, kinds_of, ended, heading, session_name, schedule, script_of, refused_statements, refused_sessions, refused_names}
+
+-- the section of a place
+abbrev pub section_of : Place → Section
+section_of places.Setup = in_setup
+section_of places.Session = in_session
 
 -- Any number of them, where what is refused and how one is read hangs on those before it: on a state that each of them changes.
 -- So many of them at the most, which is no bound where it is the number of tokens.

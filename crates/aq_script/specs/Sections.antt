@@ -68,8 +68,11 @@ item =
     Both (λ name count. record { name = name; count = count }) session_name
     (Either (Sign Times ∷ []) (sign Times ▸ Token Count number_of) (Done 1))
 
+abbrev pub items : Rule (List Item)
+items = Many (PlainName ∷ []) [] (λ items. items) item
+
 unfoldable pub schedule : Rule (Option (List Item))
-schedule = optional (Heading Schedule ∷ []) (heading Schedule ▸ Many (PlainName ∷ []) [] (λ items. items) item)
+schedule = optional (Heading Schedule ∷ []) (heading Schedule ▸ items)
 
 abbrev pub script_of : List Placed → List SessionText × Option (List Item) → Script
 script_of setup (sessions, schedule) = record { setup = setup; sessions = sessions; schedule = schedule }

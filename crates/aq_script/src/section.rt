@@ -1,0 +1,81 @@
+//! The statements of a section.
+
+ghost use Rattle.std.specs.Prelude.{◌≡◌, ◌-◌, ℕ, length};
+ghost use Rattle.aq_grammar.specs.Terminals.{begins};
+ghost use Rattle.aq_grammar.specs.Steps.{Gives, RefusesSo};
+ghost use Rattle.aq_script.specs.Sections.{statement_limit, kinds_of};
+ghost use Rattle.aq_script.specs.Parsing.{section_of, read_placed, refused_behind, read_all_statements};
+
+use aq_base::{List, Placed};
+use aq_grammar::{
+    Read, ReadFault, is_one_of, is_session_word, passes_limit, refuse_in_session, refuse_in_setup,
+    sign,
+};
+use aq_lex::{Lexed, Symbol};
+use aq_parse::{Place, statement};
+use std::alloc::Global;
+
+/// The number of statements that a script may have.
+pub(crate) const MAX_STATEMENTS: usize = 65536;
+
+/// Whether a statement of the section begins the tokens.
+fn begins_statement(place: Place, tokens: &Lexed<'_>) -> bool
+    ensures { result ≡ begins (kinds_of (section_of place)) tokens.now }
+{
+    match place {
+        Place::Setup => is_one_of(tokens, &["create", "alter"]),
+        Place::Session => is_session_word(tokens),
+    }
+}
+
+/// What is refused where a statement may begin, where so many more may come.
+fn refuse_behind(
+    alloc: Global,
+    place: Place,
+    room: usize,
+    tokens: &Lexed<'_>,
+) -> Result<(), ReadFault>
+    ensures { (statements : ℕ) → room ≡ statement_limit - statements → RefusesSo (refused_behind (section_of place) statements) result tokens.now }
+{
+    if room == 0 && begins_statement(place, tokens) {
+        return Err(passes_limit(alloc, tokens, "more than 65536 statements"));
+    }
+    match place {
+        Place::Setup => refuse_in_setup(alloc, tokens),
+        Place::Session => refuse_in_session(alloc, tokens),
+    }
+}
+
+/// A statement with its semicolon, and the line on which it begins, where it isn't refused.
+fn placed<'a>(alloc: Global, place: Place, tokens: &Lexed<'a>) -> Read<'a, Placed>
+    ensures { refused (section_of place).refused tokens.now ≡ None → Gives (λ x. x) result (read_placed (section_of place) tokens.now) }
+{
+    let line = tokens.line().unwrap_or(0);
+    let (statement, rest) = statement(alloc, place, tokens)?;
+    let ((), rest) = sign(&rest, Symbol::Semicolon)?;
+    Ok((Placed { line, statement }, rest))
+}
+
+/// The statements of a section, as many as stand there, where so many may come.
+pub(crate) fn statements<'a>(
+    alloc: Global,
+    place: Place,
+    room: usize,
+    tokens: &Lexed<'a>,
+) -> Read<'a, List<Placed>>
+    ensures { (statements : ℕ) → room ≡ statement_limit - statements → Gives (λ x. x) result (read_all_statements (section_of place) statements tokens.now) }
+{
+    let mut found = List::new(alloc);
+    let mut left = room;
+    let mut rest = tokens.copied();
+    'statements: loop {
+        refuse_behind(alloc, place, left, &rest)?;
+        if !begins_statement(place, &rest) {
+            return Ok((found, rest));
+        }
+        let (next, behind) = placed(alloc, place, &rest)?;
+        found.push(next)?;
+        left = left.saturating_sub(1);
+        rest = behind;
+    }
+}

@@ -1,0 +1,106 @@
+//! The sessions of a script.
+
+ghost use Rattle.std.specs.Prelude.{◌≡◌, ◌-◌, ℕ, length, IfOk};
+ghost use Rattle.aq_grammar.specs.Steps.{Gives, RefusesSo};
+ghost use Rattle.aq_script.specs.Sections.{statement_limit, refused_names, refused_sessions, repeated_name, names_of};
+ghost use Rattle.aq_script.specs.Parsing.{read_name, read_session, read_all_sessions};
+
+use crate::section::statements;
+use aq_base::{Code, List, NoMemory, SessionText, SqlFault, TextVal};
+use aq_grammar::{Read, ReadFault, heading, is_heading, is_word, passes_limit, plain_name};
+use aq_lex::{Directive, Lexed};
+use aq_parse::Place;
+use std::alloc::Global;
+
+/// The number of sessions that a script may have.
+const MAX_SESSIONS: usize = 16;
+
+/// `session "NAME" already exists`
+fn repeated_name(alloc: Global, name: &TextVal) -> Result<SqlFault, NoMemory>
+    ensures { IfOk result (λ fault. fault ≡ repeated_name name.now) }
+{
+    let mut text = String::from_str(alloc, "session \"")?;
+    text.push_str(name.as_str())?;
+    text.push_str("\" already exists")?;
+    Ok(SqlFault {
+        code: Code(*b"42710"),
+        text: TextVal::from_string(text),
+        detail: None,
+    })
+}
+
+/// No session has the name of one before it.
+fn refuse_names(
+    alloc: Global,
+    sessions: &[SessionText],
+    tokens: &Lexed<'_>,
+) -> Result<(), ReadFault>
+    ensures { RefusesSo (refused_names (names_of sessions.now)) result tokens.now }
+{
+    'sessions: for session in sessions {
+        if is_word(tokens, session.name.bytes()) {
+            let fault = repeated_name(alloc, &session.name)?;
+            return Err(ReadFault::Refused {
+                left: tokens.len(),
+                fault,
+            });
+        }
+    }
+    Ok(())
+}
+
+/// The heading of a session behind others.
+fn name<'a>(alloc: Global, sessions: &[SessionText], tokens: &Lexed<'a>) -> Read<'a, TextVal>
+    ensures { Gives (λ x. x) result (read_name (names_of sessions.now) tokens.now) }
+{
+    let ((), rest) = heading(tokens, Directive::Session)?;
+    refuse_names(alloc, sessions, &rest)?;
+    plain_name(alloc, &rest)
+}
+
+/// A session behind others, where so many statements may come.
+fn session<'a>(
+    alloc: Global,
+    sessions: &[SessionText],
+    room: usize,
+    tokens: &Lexed<'a>,
+) -> Read<'a, SessionText>
+    ensures { (statements : ℕ) → room ≡ statement_limit - statements → Gives (λ x. x) result (read_session statements (names_of sessions.now) tokens.now) }
+{
+    let (name, rest) = name(alloc, sessions, tokens)?;
+    let (statements, rest) = statements(alloc, Place::Session, room, &rest)?;
+    Ok((SessionText { name, statements }, rest))
+}
+
+/// No session comes behind as many as a script may have.
+fn refuse_sessions(alloc: Global, sessions: usize, tokens: &Lexed<'_>) -> Result<(), ReadFault>
+    ensures { RefusesSo (refused_sessions sessions) result tokens.now }
+{
+    if sessions >= MAX_SESSIONS && is_heading(tokens, Directive::Session) {
+        return Err(passes_limit(alloc, tokens, "more than 16 sessions"));
+    }
+    Ok(())
+}
+
+/// The sessions of a script, as many as stand there, where so many statements may come.
+pub(crate) fn sessions<'a>(
+    alloc: Global,
+    room: usize,
+    tokens: &Lexed<'a>,
+) -> Read<'a, List<SessionText>>
+    ensures { (statements : ℕ) → room ≡ statement_limit - statements → Gives (λ x. x) result (read_all_sessions statements tokens.now) }
+{
+    let mut found = List::new(alloc);
+    let mut left = room;
+    let mut rest = tokens.copied();
+    'sessions: loop {
+        refuse_sessions(alloc, found.len(), &rest)?;
+        if !is_heading(&rest, Directive::Session) {
+            return Ok((found, rest));
+        }
+        let (next, behind) = session(alloc, found.as_slice(), left, &rest)?;
+        left = left.saturating_sub(next.statements.len());
+        found.push(next)?;
+        rest = behind;
+    }
+}
