@@ -24,9 +24,11 @@ pub mod Loops
 pub mod Worked
 pub mod PairsFit
 pub mod Tokens
+pub mod OwnFault
 pub mod Refusing
 pub mod AtEnd
 pub mod RefusedAt
+pub mod FirstRefused
 pub mod Short
 pub mod ShortFit
 pub mod Each

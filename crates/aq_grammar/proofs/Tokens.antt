@@ -237,7 +237,7 @@ bound : (number : ℕ) → nat_lt number (2 ^ 63) ≡ nat_le number 922337203685
 bound number = grind (arith, common_steps)
 
 -- a number is the token, where it is small
-small_is : (number : ℕ) → small number ≡ if nat_lt number (2 ^ 63) then Some (pos number) else None
+pub small_is : (number : ℕ) → small number ≡ if nat_lt number (2 ^ 63) then Some (pos number) else None
 small_is number = ap (λ (b : Bool). if b then Some (pos number) else None) (sym (bound number))
 
 is_some_if : (b : Bool) (n : ℤ) → is_some (if b then Some n else None) ≡ (b || false)

@@ -18,18 +18,25 @@ use aq_base::{Code, NoMemory, SqlFault, TextVal};
 use aq_lex::{Lexed, Symbol};
 use std::alloc::Global;
 
+/// A fault with no detail.
+pub(crate) fn plain_fault(alloc: Global, code: &[u8; 5], text: &str) -> Result<SqlFault, NoMemory>
+    ensures { IfOk result (λ fault. fault ≡ record { code = record { 0 = code.now }; text = text.now; detail = None }) }
+{
+    Ok(SqlFault {
+        code: Code(*code),
+        text: TextVal::new(alloc, text)?,
+        detail: None,
+    })
+}
+
 /// The tokens are refused where they begin, with a code and a text.
 fn refused(alloc: Global, tokens: &Lexed<'_>, code: &[u8; 5], text: &str) -> ReadFault
     ensures { IsFaultOr (record { code = record { 0 = code.now }; text = text.now; detail = None }) tokens.now result }
 {
-    match TextVal::new(alloc, text) {
-        Ok(text) => ReadFault::Refused {
+    match plain_fault(alloc, code, text) {
+        Ok(fault) => ReadFault::Refused {
             left: tokens.len(),
-            fault: SqlFault {
-                code: Code(*code),
-                text,
-                detail: None,
-            },
+            fault,
         },
         Err(_) => ReadFault::NoMemory,
     }

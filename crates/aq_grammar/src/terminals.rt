@@ -207,7 +207,8 @@ fn is_within(tokens: &Lexed<'_>, most: usize) -> bool
     }
 }
 
-const MAX_NAME: usize = 63;
+/// The number of bytes that a name may have.
+pub(crate) const MAX_NAME: usize = 63;
 
 /// Whether the first token is an unreserved word of 63 bytes at the most.
 pub fn is_plain_name(tokens: &Lexed<'_>) -> bool
@@ -391,7 +392,8 @@ fn holds(text: &[u8], part: &[u8]) -> bool
     false
 }
 
-const MAX_TEXT: usize = 1000;
+/// The number of bytes that a text may have.
+pub(crate) const MAX_TEXT: usize = 1000;
 
 /// Whether the first token is a text between quotes of 1,000 bytes at the most.
 fn is_text(tokens: &Lexed<'_>) -> bool

@@ -1,11 +1,12 @@
 -- Reading all tokens as a script gives the only script that they spell, or the place from which on they begin none.
-use Rattle.std.proofs.Common.{◌≡◌, List, [], ◌∷◌, ◌++◌, refl, sym, ◌∙◌, subst, ◌⊎◌, inl, inr}
+use Rattle.std.proofs.Common.{◌≡◌, List, [], ◌∷◌, ◌++◌, refl, sym, ◌∙◌, subst, inl, inr}
 use Rattle.std.proofs.lemmas.List.{append-nil}
 use Rattle.aq_base.specs.declared.script.Script.{Script}
 use Rattle.aq_lex.specs.Lexemes.{PlacedLexeme}
 use Rattle.aq_grammar.specs.Reading.{Outcome, Read, Stop, Reason, Syntax, Refused, ◌>>=◌}
 use Rattle.aq_grammar.specs.Places.{IsClear, IsRead}
-use Rattle.aq_grammar.proofs.Languages.{IsStopped, IsRefusal, IsRight}
+use Rattle.aq_grammar.proofs.Languages.{IsRight}
+use Rattle.aq_grammar.proofs.FirstRefused.{StopsAt}
 use Rattle.aq_script.specs.Sections.{SpellsScript, BarsScript}
 use Rattle.aq_script.specs.Parsing.{read_script, at_end, whole_script}
 use Rattle.aq_script.proofs.Scripts.{script_right}
@@ -17,14 +18,10 @@ pub record IsWhole (tokens : List PlacedLexeme) (script : Script) : Type 0 where
   pub clear : IsClear BarsScript tokens []
 
 -- no script goes on with the rest, or a whole script stands before it
-abbrev pub StopsAt : Reason → List PlacedLexeme → List PlacedLexeme → Type 0
-StopsAt Syntax front rest = IsStopped SpellsScript BarsScript front rest ⊎ ((script : Script) × IsRead SpellsScript BarsScript script front rest × (rest ≡ [] → ⊥))
-StopsAt (Refused fault) front rest = IsRefusal SpellsScript BarsScript fault front rest
-
 pub record Stops (tokens : List PlacedLexeme) (reason : Reason) (rest : List PlacedLexeme) : Type 0 where
   pub front : List PlacedLexeme
   pub whole : tokens ≡ front ++ rest
-  pub stops : StopsAt reason front rest
+  pub stops : StopsAt SpellsScript BarsScript reason front rest
 
 abbrev pub IsWholeRight : List PlacedLexeme → Outcome Script → Type 0
 IsWholeRight tokens (Read script rest) = (rest ≡ []) × IsWhole tokens script
