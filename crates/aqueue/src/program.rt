@@ -3,8 +3,7 @@
 ghost use Rattle.std.specs.Prelude.{◌≡◌, ℕ, ◌<◌, ◌≤◌, List, [], ◌∷◌, true, false, length, Some, IfOk, IfSome};
 ghost use Rattle.std.specs.Io.KnownBytes.{Keeps, Appends};
 ghost use Rattle.aq_causes.specs.Counts.{Rose};
-ghost use Rattle.aq_narrow.specs.Reading.{Reads, HasNoReading, not_built};
-ghost use Rattle.aqueue.specs.Answers.{are_replay, script_limit, usage_line, too_long_line, refusal_line, IsReplay, IsAnswer, Wrote, WroteBeginning, is_one_of};
+ghost use Rattle.aqueue.specs.Answers.{are_replay, script_limit, usage_line, too_long_line, refusal_line, IsReplay, RunsAs, HasNoRun, IsAnswer, Wrote, WroteRefusal, WroteBeginning, is_one_of};
 ghost use Rattle.aq_base.specs.Names.{Text};
 ghost use Rattle.aq_base.specs.declared.simple.SimpleScript.{SimpleScript};
 ghost use Rattle.aqueue.specs.Outcomes.{OutcomeCases};
@@ -105,7 +104,7 @@ fn prepared<S: Source>(
 /// |---|---|
 /// | 0 | the text of the run was written |
 /// | 1 | the words are no list of words that is built; the usage line was written |
-/// | 2 | the bytes are no script; a line with the place and the cause was written |
+/// | 2 | the bytes are no script, or one that is not run yet; a line with the place and the cause was written |
 /// | 4 | the source failed; nothing was written |
 /// | 5 | the sink failed; a beginning of the text or line was written |
 /// | 6 | want of memory, which may come at any growth before the first byte is written; nothing was written |
@@ -121,9 +120,9 @@ pub fn aqueue<S: Source, K: Sink>(
     // 1: exactly where the words are no list that is built.
     ensures usage { result ≡ 1 → (are_replay words.now ≡ false) × Keeps (S.left input.old) (S.left input.new) × Appends (K.written output.old) (K.written output.new) usage_line }
     ensures usage_comes { are_replay words.now ≡ false → is_one_of (1 ∷ 5 ∷ 6 ∷ []) result ≡ true }
-    // 2: exactly where the bytes are no script.
-    ensures refused { result ≡ 2 → (are_replay words.now ≡ true) × IfSome (S.left input.old) HasNoReading × Appends (K.written output.old) (K.written output.new) (refusal_line 1 not_built) }
-    ensures refused_comes { are_replay words.now ≡ true → IfSome (S.left input.old) (λ bytes. length bytes ≤ script_limit → HasNoReading bytes → is_one_of (2 ∷ 4 ∷ 5 ∷ 6 ∷ []) result ≡ true) }
+    // 2: exactly where the bytes are no script that runs. The first line that is refused was written.
+    ensures refused { result ≡ 2 → (are_replay words.now ≡ true) × WroteRefusal (S.left input.old) (K.written output.old) (K.written output.new) }
+    ensures refused_comes { are_replay words.now ≡ true → IfSome (S.left input.old) (λ bytes. length bytes ≤ script_limit → HasNoRun bytes → is_one_of (2 ∷ 4 ∷ 5 ∷ 6 ∷ []) result ≡ true) }
     // 4: only where the source's count of faults rose.
     ensures read_failed { result ≡ 4 → (are_replay words.now ≡ true) × Rose (S.faults input.old) (S.faults input.new) × Keeps (K.written output.old) (K.written output.new) }
     // 5: only where the sink's count of faults rose; what it took begins an answer.
@@ -135,7 +134,7 @@ pub fn aqueue<S: Source, K: Sink>(
     ensures too_long_comes { are_replay words.now ≡ true → IfSome (S.left input.old) (λ bytes. script_limit < length bytes → is_one_of (4 ∷ 5 ∷ 6 ∷ 7 ∷ []) result ≡ true) }
     // There is no other status, and where no cause is met it is 0 or 6.
     ensures statuses { is_one_of (0 ∷ 1 ∷ 2 ∷ 4 ∷ 5 ∷ 6 ∷ 7 ∷ []) result ≡ true }
-    ensures complete { are_replay words.now ≡ true → IfSome (S.left input.old) (λ bytes. length bytes ≤ script_limit → (script : SimpleScript) → Reads bytes script →
+    ensures complete { are_replay words.now ≡ true → IfSome (S.left input.old) (λ bytes. length bytes ≤ script_limit → (simple : SimpleScript) → RunsAs bytes simple →
         ¬ Rose (S.faults input.old) (S.faults input.new) → ¬ Rose (K.faults output.old) (K.faults output.new) → is_one_of (0 ∷ 6 ∷ []) result ≡ true) }
     ensures source_count { S.faults input.old ≤ S.faults input.new }
     ensures sink_count { K.faults output.old ≤ K.faults output.new }

@@ -7,7 +7,8 @@ use aq_base::{List, NoMemory, TextVal};
 use aq_causes::{MemorySink, MemorySource};
 use aq_journal::Shared;
 use aq_machine::Machine;
-use aq_narrow::read_script;
+use aq_script::read_script;
+use aq_simple::simple_script;
 use aq_xids::SessNo;
 use std::alloc::Global;
 use std::test::Fail;
@@ -103,18 +104,58 @@ fn short_scripts(rt: HostRuntime) -> Result<(), Fail> {
         ("\\session a SELECT * FROM t;", 2, NOT_BUILT),
         ("\\session a INSERT INTO t VALUES (1);", 2, NOT_BUILT),
         ("\\session a DELETE FROM t;", 2, NOT_BUILT),
-        ("\\session a COMMIT WORK;", 2, NOT_BUILT),
+        (
+            "\\session a COMMIT WORK;",
+            0,
+            "a.1: WARNING 25P01 there is no transaction in progress\na.1: COMMIT\nschedule a*2\n",
+        ),
         (
             "\\session a BEGIN; ROLLBACK;",
             0,
             "a.1: BEGIN\na.2: ROLLBACK\nschedule a*3\n",
         ),
-        ("-- nothing", 2, NOT_BUILT),
+        ("-- nothing", 0, "schedule\n"),
     ];
     for (script, status, text) in cases {
         let (got, sink) = answer_of(rt.alloc(), &["replay"], script, 16, &[], 4096)?;
         assert_eq!(rt; got, status, "at {script}");
         assert_eq!(rt; sink.bytes(), text.as_bytes(), "at {script}");
+    }
+    Ok(())
+}
+
+#[test]
+fn the_first_line_that_is_refused(rt: HostRuntime) -> Result<(), Fail> {
+    let cases = [
+        (
+            "\\setup
+CREATE TABLE t (id integer);
+CREATE TRIGGER x BEFORE INSERT ON t FOR EACH ROW EXECUTE FUNCTION f();",
+            "aqueue: line 3: 0A000 BEFORE triggers are not supported\n",
+        ),
+        (
+            "\\session a\nINSERT INTO t VALUES ('x",
+            "aqueue: line 2: 42601 syntax error\n",
+        ),
+        (
+            "\\session a\nCOMMIT;\n\\session a",
+            "aqueue: line 3: 42710 session \"a\" already exists\n",
+        ),
+        (
+            "\\session a\nCOMMIT;\n\nCREATE TABLE t (id integer);",
+            "aqueue: line 4: 0A000 DDL outside setup is not supported\n",
+        ),
+        (
+            "\\setup CREATE TABLE t (id integer);
+\\session a INSERT INTO t VALUES (1);
+UPDATE t SET id = 2;",
+            "aqueue: line 3: 0A000 this form is not built\n",
+        ),
+    ];
+    for (script, line) in cases {
+        let (status, sink) = answer_of(rt.alloc(), &["replay"], script, 4096, &[], 4096)?;
+        assert_eq!(rt; status, 2, "at {script}");
+        assert_eq!(rt; sink.bytes(), line.as_bytes(), "at {script}");
     }
     Ok(())
 }
@@ -221,7 +262,10 @@ fn a_journal_steps_and_goes_on_to_the_end(rt: HostRuntime) -> Result<(), Fail> {
         let script = read_script(rt.alloc(), PARENT_AND_CHILD.as_bytes())
             .ok()
             .ok_or("it is a script")?;
-        let mut shared = Shared::new(rt.alloc(), Machine::open(rt.alloc(), script)?);
+        let simple = simple_script(rt.alloc(), &script)
+            .ok()
+            .ok_or("it runs")?;
+        let mut shared = Shared::new(rt.alloc(), Machine::open(rt.alloc(), simple)?);
         for _ in 0..taken {
             assert!(rt; shared.machine().enabled(SessNo(0)));
             shared.advance(SessNo(0))?;

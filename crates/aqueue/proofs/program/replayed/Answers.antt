@@ -1,6 +1,6 @@
 use Rattle.std.proofs.Common.{Some}
 use Rattle.aqueue.specs.Answers.IsAnswer.{Replayed}
-use Rattle.aqueue.proofs.Answering.{not_read_answer}
+use Rattle.aqueue.proofs.Answering.{refused_bytes_answer}
 use Rattle.aqueue.proofs.program.replayed.Goals as goal
 
 pub returns-in-Ok : goal.returns-in-Ok
@@ -8,6 +8,7 @@ returns-in-Ok c = λ words before now is. Replayed words (Some c.args.bytes.now)
 
 pub returns-in_ok-refusal-in-Err-Script : goal.returns-in_ok-refusal-in-Err-Script
 returns-in_ok-refusal-in-Err-Script c = λ words before now is.
-    let fault = rw c.in-Err-Script.field-0-is at c.in-Err-Script.ensures.refused in
-    not_read_answer words c.args.bytes.now c.in-Err-Script.line c.in-Err-Script.fault c.in_ok-refusal-in-Err-Script.field-0 is c.in_ok-refusal-in-Err-Script.ensures
-    fault.0 fault.1 c.requires fault.2
+    let refused = rw c.in-Err-Script.field-0-is at c.in-Err-Script.ensures.refused in
+    let none = rw c.in-Err-Script.field-0-is at c.in-Err-Script.ensures.none in
+    refused_bytes_answer words c.args.bytes.now c.in-Err-Script.line c.in-Err-Script.fault c.in_ok-refusal-in-Err-Script.field-0 is c.in_ok-refusal-in-Err-Script.ensures
+    c.requires refused none
