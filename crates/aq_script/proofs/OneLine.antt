@@ -4,7 +4,7 @@ use Rattle.std.proofs.lemmas.List.{append-nil}
 use Rattle.aq_base.specs.declared.fault.SqlFault.{SqlFault}
 use Rattle.aq_base.specs.declared.script.Script.{Script}
 use Rattle.aq_lex.specs.declared.token.Token.{Token}
-use Rattle.aq_lex.specs.Tokens.{Lexes, NoTokenAt}
+use Rattle.aq_lex.specs.Tokens.{Lexes}
 use Rattle.aq_lex.specs.Lexemes.{PlacedLexeme, lexemes, line_at}
 use Rattle.aq_lex.proofs.Once.{lexes_once, lexes_or_not, refused_once}
 use Rattle.aq_grammar.specs.Reading.{Outcome, Read}
@@ -68,7 +68,7 @@ no_reading bytes (Refused line fault) refused = λ script reads. not_both bytes 
 
 -- ---- one line
 
--- where a place of the tokens is refused, the bytes behind them aren't refused before
+-- no token is refused where the tokens begin a script
 none_begun : (bytes front_bytes other_bytes : List ℕ) (a b : List Token) (front : List PlacedLexeme) (token : PlacedLexeme) (behind : List PlacedLexeme) (fault : SqlFault)
     → AreTokens bytes front_bytes → AreTokens bytes other_bytes → Lexes front_bytes a → Lexes other_bytes b → lexemes front_bytes a ≡ front ++ token ∷ behind
     → IsRefusedAt SpellsScript BarsScript front (token ∷ behind) fault → BeginsScript (lexemes other_bytes b) → ⊥
@@ -76,7 +76,7 @@ none_begun bytes front_bytes other_bytes a b front token behind fault one two fi
     let same = one_lexed bytes other_bytes front_bytes b a two one second first in
     none_in_beginning SpellsScript BarsScript script_short (lexemes other_bytes b) front token behind fault begins.clear begins.no_subquery begins.begun (same ∙ e) refused
 
--- two places of the tokens
+-- two places that are refused are one, with one fault
 two_places : (bytes front_bytes other_bytes : List ℕ) (a b : List Token) (front place other rest : List PlacedLexeme) (one two : SqlFault) → AreTokens bytes front_bytes
     → AreTokens bytes other_bytes → Lexes front_bytes a → Lexes other_bytes b → lexemes front_bytes a ≡ front ++ place → lexemes other_bytes b ≡ other ++ rest
     → IsRefusedAt SpellsScript BarsScript front place one → IsRefusedAt SpellsScript BarsScript other rest two → (place ≡ rest) × (one ≡ two)
@@ -85,8 +85,8 @@ two_places bytes front_bytes other_bytes a b front place other rest one two are_
     let at = one_refusal (lexemes front_bytes a) front place other rest one two e (same ∙ p) refused_one refused_two in
     (at.1, at.2)
 
-whole_of : (bytes : List ℕ) (tokens : List Token) → lexemes bytes tokens ≡ lexemes bytes tokens ++ []
-whole_of bytes tokens = sym (append-nil (lexemes bytes tokens))
+nothing_behind : (bytes : List ℕ) (tokens : List Token) → lexemes bytes tokens ≡ lexemes bytes tokens ++ []
+nothing_behind bytes tokens = sym (append-nil (lexemes bytes tokens))
 
 pub one_line : (bytes : List ℕ) (line other : ℕ) (a b : SqlFault) → IsRefusedLine bytes line a → IsRefusedLine bytes other b → (line ≡ other) × (a ≡ b)
 one_line bytes line other a b (AtToken front_bytes tokens front token behind fault are l e refused) (AtToken front_bytes' tokens' front' token' behind' fault' are' l' e' refused') =
@@ -95,7 +95,7 @@ one_line bytes line other a b (AtToken front_bytes tokens front token behind fau
 one_line bytes line other a b (AtToken front_bytes tokens front token behind fault are l e refused) (AtByte at tokens' bad l' begins) =
     absurd (none_begun bytes front_bytes (take at bytes) tokens tokens' front token behind fault are (Before at bad) l l' e refused begins)
 one_line bytes line other a b (AtToken front_bytes tokens front token behind fault are l e refused) (AtEnd tokens' fault' l' refused') =
-    let same = two_places bytes front_bytes bytes tokens tokens' front (token ∷ behind) (lexemes bytes tokens') [] fault fault' are All l l' e (whole_of bytes tokens') refused refused' in
+    let same = two_places bytes front_bytes bytes tokens tokens' front (token ∷ behind) (lexemes bytes tokens') [] fault fault' are All l l' e (nothing_behind bytes tokens') refused refused' in
     absurd cc
 one_line bytes line other a b (AtByte at tokens bad l begins) (AtToken front_bytes tokens' front token behind fault are l' e refused) =
     absurd (none_begun bytes front_bytes (take at bytes) tokens' tokens front token behind fault are (Before at bad) l' l e refused begins)
@@ -103,10 +103,10 @@ one_line bytes line other a b (AtByte at tokens bad l begins) (AtByte at' tokens
     (ap (line_at bytes) (refused_once bytes at at' bad bad'), refl)
 one_line bytes line other a b (AtByte at tokens bad l begins) (AtEnd tokens' fault l' refused) = absurd (lexes_or_not bytes tokens' at l' bad)
 one_line bytes line other a b (AtEnd tokens fault l refused) (AtToken front_bytes tokens' front token behind fault' are l' e refused') =
-    let same = two_places bytes bytes front_bytes tokens tokens' (lexemes bytes tokens) [] front (token ∷ behind) fault fault' All are l l' (whole_of bytes tokens) e refused refused' in
+    let same = two_places bytes bytes front_bytes tokens tokens' (lexemes bytes tokens) [] front (token ∷ behind) fault fault' All are l l' (nothing_behind bytes tokens) e refused refused' in
     absurd cc
 one_line bytes line other a b (AtEnd tokens fault l refused) (AtByte at tokens' bad l' begins) = absurd (lexes_or_not bytes tokens at l bad)
 one_line bytes line other a b (AtEnd tokens fault l refused) (AtEnd tokens' fault' l' refused') =
     let same =
-        two_places bytes bytes bytes tokens tokens' (lexemes bytes tokens) [] (lexemes bytes tokens') [] fault fault' All All l l' (whole_of bytes tokens) (whole_of bytes tokens') refused refused' in
+    two_places bytes bytes bytes tokens tokens' (lexemes bytes tokens) [] (lexemes bytes tokens') [] fault fault' All All l l' (nothing_behind bytes tokens) (nothing_behind bytes tokens') refused refused' in
     (refl, same.1)

@@ -1,5 +1,5 @@
 -- The line of the place that is refused first in the tokens of bytes.
-use Rattle.std.proofs.Common.{◌≡◌, ℕ, ◌-◌, ◌≤◌, Bool, true, false, ◌&&◌, if◌then◌else◌, nat_lt, List, [], ◌∷◌, ◌++◌, length, take, drop, Some, None, refl, sym, ap, ◌∙◌, subst, inl, inr, arith, length-append, length-drop}
+use Rattle.std.proofs.Common.{◌≡◌, ℕ, ◌-◌, ◌≤◌, Bool, true, false, ◌&&◌, if◌then◌else◌, nat_lt, List, [], ◌∷◌, ◌++◌, length, take, drop, refl, sym, ap, ◌∙◌, subst, inl, inr, arith, length-append, length-take, length-drop}
 use Rattle.std.proofs.lemmas.Bool.{and_parts, false_from_ne_true}
 use Rattle.std.proofs.lemmas.List.{append-nil, drop_at}
 use Rattle.aq_base.specs.declared.fault.SqlFault.{SqlFault}
@@ -7,7 +7,8 @@ use Rattle.aq_base.specs.declared.script.Script.{Script}
 use Rattle.aq_lex.specs.declared.token.Token.{Token}
 use Rattle.aq_lex.specs.declared.token.Symbol.TheVariants.{OpenParen}
 use Rattle.aq_lex.specs.Tokens.{Lexes, NoTokenAt}
-use Rattle.aq_lex.specs.Lexemes.{PlacedLexeme, lexemes, line_at, first_line}
+use Rattle.aq_lex.specs.Lexemes.{PlacedLexeme, lexemes, line_at}
+use Rattle.aq_lex.proofs.Once.{lexes_or_not, refused_front, refused_within}
 use Rattle.aq_grammar.specs.Terminals.{Sign, fits}
 use Rattle.aq_grammar.specs.Reading.{Reason, Read, Stop, Syntax}
 use Rattle.aq_grammar.specs.Places.{begins_subquery, subquery_fault, syntax_error, IsRefusedAt}
@@ -18,7 +19,7 @@ use Rattle.aq_grammar.proofs.RefusedAt.{no_subqueries}
 use Rattle.aq_grammar.proofs.RightForms.{begins_whole}
 use Rattle.aq_script.specs.Sections.{SpellsScript, BarsScript}
 use Rattle.aq_script.specs.Parsing.{whole_script}
-use Rattle.aq_script.specs.Reading.{Reads, AreTokens, All, Before, BeginsScript, IsRefusedLine, AtToken, AtByte, AtEnd}
+use Rattle.aq_script.specs.Reading.{Reads, All, Before, BeginsScript, IsRefusedLine, AtToken, AtByte, AtEnd}
 use Rattle.aq_script.specs.RefusedLines.{IsRefusedPlace, IsRefusedBefore, line_or}
 use Rattle.aq_script.proofs.Whole.{whole_read, whole_stopped}
 use Rattle.aq_script.proofs.Ends.{script_short}
@@ -29,15 +30,6 @@ last_is : (tokens front rest : List PlacedLexeme) (left : ℕ) → tokens ≡ fr
 last_is tokens front rest left e l =
     let same : length front ≡ length tokens - left = omega (arith, ap length e, length-append front rest) in
     ap (λ (u : List PlacedLexeme). drop (length tokens - left) u) e ∙ drop_at front rest (length tokens - left) same
-
--- the line of the tokens from a place on, as it is told
-pub line_is : (end line : ℕ) (tokens : List PlacedLexeme) → first_line tokens ≡ Some line → line ≡ line_or end tokens
-line_is end line [] e = cc
-line_is end line (token ∷ tokens) e = cc
-
-pub line_at_end : (end : ℕ) (tokens : List PlacedLexeme) → first_line tokens ≡ None → end ≡ line_or end tokens
-line_at_end end [] e = refl
-line_at_end end (token ∷ tokens) e = cc
 
 -- ---- the place where reading stops
 
@@ -83,7 +75,7 @@ place_at_end tokens rest script found e is =
     let begun = begins_whole SpellsScript script tokens whole.spelled in
     let end = last_is tokens tokens [] 0 (sym (append-nil tokens)) refl in
     let here = subst (λ (at : List PlacedLexeme × SqlFault). IsPlace found at) (ap (λ (u : List PlacedLexeme). refused_place tokens Syntax u) end ∙ at_end tokens) is in
-    inr (record { begun = begun; clear = whole.clear; no_subquery = no_subqueries SpellsScript BarsScript script_short no_subquery_begun tokens begun }, here)
+    inr (record { begun = begun; clear = whole.clear; no_subquery = no_subqueries SpellsScript BarsScript script_short no_subquery_begun tokens begun }, here.0, here.1)
 
 -- ---- its line
 
@@ -127,3 +119,12 @@ line_of_place_before bytes at tokens found bad l (inr (begins, none, fault)) =
 pub reads_by : (bytes : List ℕ) (tokens : List Token) (script : Script) → Lexes bytes tokens → whole_script (lexemes bytes tokens) ≡ Read script [] → Reads bytes script
 reads_by bytes tokens script l e =
     let whole = (whole_read (lexemes bytes tokens) [] script e).1 in record { tokens = tokens; lexed = l; spelled = whole.spelled; clear = whole.clear }
+
+-- ---- bytes at one of which no token begins
+
+pub bytes_before : (bytes : List ℕ) (at : ℕ) → NoTokenAt bytes at → at ≡ length (take at bytes)
+bytes_before bytes at bad = omega (arith, length-take at bytes, refused_within bytes at bad)
+
+-- before it one begins at each place
+pub none_before : (bytes : List ℕ) (at place : ℕ) → NoTokenAt bytes at → NoTokenAt (take at bytes) place → ⊥
+none_before bytes at place bad before = let front = refused_front bytes at bad in lexes_or_not (take at bytes) front.0 place front.1 before
