@@ -1,5 +1,5 @@
 -- A statement that is read, or the place that is refused, among all tokens.
-use Rattle.std.proofs.Common.{◌≡◌, ◌≤◌, ℕ, ◌+◌, ◌-◌, true, List, [], ◌++◌, length, take, drop, Option, Some, None, refl, sym, ap, ap₂, ◌∙◌, subst, inl, arith}
+use Rattle.std.proofs.Common.{◌≡◌, ◌≤◌, ℕ, ◌+◌, ◌-◌, true, List, ◌++◌, length, take, drop, Option, Some, None, refl, sym, ap, ap₂, ◌∙◌, subst, inl, arith}
 use Rattle.std.proofs.lemmas.List.{length-append, length-drop, take-append-drop, take_at, drop_at, drop-drop}
 use Rattle.aq_base.specs.declared.fault.SqlFault.{SqlFault}
 use Rattle.aq_base.specs.declared.statement.Statement.{Statement}
@@ -101,56 +101,56 @@ module _ (rule : Rule Statement) (fit : is_fit_by marks rule ≡ true) where
       let places : one.next ≡ other.next = omega arith in
       ap₂ (λ (statement : Statement) (next : ℕ). let parsed : Parsed = record { statement = statement; next = next } in parsed) statements places
 
-  module _ (short : BarsShort (Bars rule)) (none : (u : List PlacedLexeme) → Begins (Spells rule) u → HasSubquery u → ⊥) where
-    stops_at : (refusal : Option SqlFault) (front rest : List PlacedLexeme) → Explains (Spells rule) (Bars rule) (Stop (reason_of refusal) rest) front
-        → StopsAt (Spells rule) (Bars rule) (reason_of refusal) front rest
-    stops_at None front rest stopped = inl stopped
-    stops_at (Some fault) front rest refused = refused
+  refused_there : (tokens : List PlacedLexeme) (from at place : ℕ) (one two : SqlFault) → place ≡ at → one ≡ two → IsRefusedStatement rule tokens from at one
+      → IsRefusedStatement rule tokens from place two
+  refused_there tokens from at place one two same_place same_fault refused =
+      subst (λ (n : ℕ). IsRefusedStatement rule tokens from n two) (sym same_place)
+      (subst (λ (f : SqlFault). IsRefusedStatement rule tokens from at f) same_fault refused)
 
+  told_so : (tokens : List PlacedLexeme) (from at : ℕ) (fault : SqlFault) (told : ParseFault) → IsRefusedStatement rule tokens from at fault → IsToldAs at fault told
+      → IsParseFault rule tokens from told
+  told_so tokens from at fault NoMemory refused is = tt
+  told_so tokens from at fault (Limit place said) refused (same_place, same_fault, is_limit) =
+      (refused_there tokens from at place fault said same_place (sym same_fault) refused, is_limit)
+  told_so tokens from at fault (Unsupported place name) refused (same_place, same_fault) =
+      refused_there tokens from at place fault (unsupported name) same_place same_fault refused
+  told_so tokens from at fault (Syntax place) refused (same_place, same_fault) = refused_there tokens from at place fault syntax_error same_place same_fault refused
+
+  not_also_parsed : (tokens rest : List PlacedLexeme) (from : ℕ) (reason : Reason) → reads rule (drop from tokens) ≡ Stop reason rest
+      → (parsed : Parsed) → IsParsed rule tokens from parsed → ⊥
+  not_also_parsed tokens rest from reason stops parsed is = let read = parsed_so tokens from parsed is in cc
+
+  statement_refused : (tokens : List PlacedLexeme) (from at : ℕ) (place : List PlacedLexeme) (fault : SqlFault) → from ≤ length tokens → at ≡ length tokens - length place
+      → ((parsed : Parsed) → IsParsed rule tokens from parsed → ⊥) → IsFirstRefused (Spells rule) (Bars rule) (drop from tokens) (place, fault)
+      → IsRefusedStatement rule tokens from at fault
+  statement_refused tokens from at place fault within is none_read (front, whole, refused) =
+      let cut = cut_at tokens from at front place within whole is in
+      let there = subst (λ (u : List PlacedLexeme). IsRefusedAt (Spells rule) (Bars rule) u place fault) (sym cut.front_is) refused in
+      record {
+        behind = cut.behind;
+        within = cut.within;
+        refused = subst (λ (u : List PlacedLexeme). IsRefusedAt (Spells rule) (Bars rule) (between from at tokens) u fault) (sym cut.rest_is) there;
+        none_read = none_read;
+      }
+
+  told_of_stop : (tokens : List PlacedLexeme) (from : ℕ) (found : List PlacedLexeme × SqlFault) (told : ParseFault) → from ≤ length tokens
+      → ((parsed : Parsed) → IsParsed rule tokens from parsed → ⊥) → IsFirstRefused (Spells rule) (Bars rule) (drop from tokens) found
+      → IsPlaceTold (length tokens) found told → IsParseFault rule tokens from told
+  told_of_stop tokens from (place, fault) told within none_read first is =
+      told_so tokens from (length tokens - length place) fault told
+      (statement_refused tokens from (length tokens - length place) place fault within refl none_read first) is
+
+  stops_at : (refusal : Option SqlFault) (front rest : List PlacedLexeme) → Explains (Spells rule) (Bars rule) (Stop (reason_of refusal) rest) front
+      → StopsAt (Spells rule) (Bars rule) (reason_of refusal) front rest
+  stops_at None front rest stopped = inl stopped
+  stops_at (Some fault) front rest refused = refused
+
+  module _ (short : BarsShort (Bars rule)) (none : (u : List PlacedLexeme) → Begins (Spells rule) u → HasSubquery u → ⊥) where
     first_of_stop : (tokens rest : List PlacedLexeme) (refusal : Option SqlFault) → IsRight (Spells rule) (Bars rule) tokens (Stop (reason_of refusal) rest)
         → IsFirstRefused (Spells rule) (Bars rule) tokens (refused_place tokens (reason_of refusal) rest)
     first_of_stop tokens rest refusal right =
         first_refused (Spells rule) (Bars rule) (free_at_end rules marks rules_fit rule fit) short none tokens (reason_of refusal) rest right.front right.whole
         (stops_at refusal right.front rest right.explained)
-
-    statement_refused : (tokens : List PlacedLexeme) (from at : ℕ) (place : List PlacedLexeme) (fault : SqlFault) → from ≤ length tokens → at ≡ length tokens - length place
-        → ((parsed : Parsed) → IsParsed rule tokens from parsed → ⊥) → IsFirstRefused (Spells rule) (Bars rule) (drop from tokens) (place, fault)
-        → IsRefusedStatement rule tokens from at fault
-    statement_refused tokens from at place fault within is none_read (front, whole, refused) =
-        let cut = cut_at tokens from at front place within whole is in
-        let there = subst (λ (u : List PlacedLexeme). IsRefusedAt (Spells rule) (Bars rule) u place fault) (sym cut.front_is) refused in
-        record {
-          behind = cut.behind;
-          within = cut.within;
-          refused = subst (λ (u : List PlacedLexeme). IsRefusedAt (Spells rule) (Bars rule) (between from at tokens) u fault) (sym cut.rest_is) there;
-          none_read = none_read;
-        }
-
-    refused_there : (tokens : List PlacedLexeme) (from at place : ℕ) (one two : SqlFault) → place ≡ at → one ≡ two → IsRefusedStatement rule tokens from at one
-        → IsRefusedStatement rule tokens from place two
-    refused_there tokens from at place one two same_place same_fault refused =
-        subst (λ (n : ℕ). IsRefusedStatement rule tokens from n two) (sym same_place)
-        (subst (λ (f : SqlFault). IsRefusedStatement rule tokens from at f) same_fault refused)
-
-    told_so : (tokens : List PlacedLexeme) (from at : ℕ) (fault : SqlFault) (told : ParseFault) → IsRefusedStatement rule tokens from at fault → IsToldAs at fault told
-        → IsParseFault rule tokens from told
-    told_so tokens from at fault NoMemory refused is = tt
-    told_so tokens from at fault (Limit place said) refused (same_place, same_fault, is_limit) =
-        (refused_there tokens from at place fault said same_place (sym same_fault) refused, is_limit)
-    told_so tokens from at fault (Unsupported place name) refused (same_place, same_fault) =
-        refused_there tokens from at place fault (unsupported name) same_place same_fault refused
-    told_so tokens from at fault (Syntax place) refused (same_place, same_fault) = refused_there tokens from at place fault syntax_error same_place same_fault refused
-
-    not_also_parsed : (tokens rest : List PlacedLexeme) (from : ℕ) (reason : Reason) → reads rule (drop from tokens) ≡ Stop reason rest
-        → (parsed : Parsed) → IsParsed rule tokens from parsed → ⊥
-    not_also_parsed tokens rest from reason stops parsed is = let read = parsed_so tokens from parsed is in cc
-
-    told_of_stop : (tokens : List PlacedLexeme) (from : ℕ) (found : List PlacedLexeme × SqlFault) (told : ParseFault) → from ≤ length tokens
-        → ((parsed : Parsed) → IsParsed rule tokens from parsed → ⊥) → IsFirstRefused (Spells rule) (Bars rule) (drop from tokens) found
-        → IsPlaceTold (length tokens) found told → IsParseFault rule tokens from told
-    told_of_stop tokens from (place, fault) told within none_read first is =
-        told_so tokens from (length tokens - length place) fault told
-        (statement_refused tokens from (length tokens - length place) place fault within refl none_read first) is
 
     -- where reading stops, this is the fault of the refused place
     pub is_refused : (tokens rest : List PlacedLexeme) (from left : ℕ) (refusal : Option SqlFault) (told : ParseFault) → from ≤ length tokens → left ≡ length rest

@@ -1,5 +1,5 @@
 -- The rules of statements, by the place where one stands.
-use Rattle.std.proofs.Common.{◌≡◌, true, List, [], ◌∷◌, refl}
+use Rattle.std.proofs.Common.{◌≡◌, true, List, refl}
 use Rattle.std.proofs.lemmas.Bool.{and_from}
 use Rattle.aq_lex.specs.Lexemes.{PlacedLexeme}
 use Rattle.aq_grammar.specs.Rules.{Begins}
