@@ -27,3 +27,6 @@ mod words;
 pub use laws::one_statement;
 pub use parsing::{ParseFault, Parsed, parse};
 pub use statements::{Place, statement};
+
+#[cfg(test)]
+mod tests;
