@@ -34,6 +34,7 @@ fn place_before(alloc: Global, tokens: &Lexed<'_>) -> Result<RefusedPlace, NoMem
     ensures { IfOk result (λ place. IsRefusedBefore tokens.now place) }
 {
     match whole_script(alloc, tokens) {
+        // The whole of them may go on, so what is refused is what stands behind their end.
         Ok(_) => refused_place(alloc, tokens, 0, None),
         Err(fault) => place_of(alloc, tokens, fault),
     }

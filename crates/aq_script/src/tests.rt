@@ -45,7 +45,10 @@ fn refuses_unsupported_forms(rt: HostRuntime) {
             "DDL outside setup is not supported",
         ),
     ] {
-        assert!(rt; is_refused(rt.alloc(), bytes, line, b"0A000", text), "{text}");
+        assert!(rt;
+            is_refused(rt.alloc(), bytes, line, b"0A000", text),
+            "{text}"
+        );
     }
 }
 
@@ -57,7 +60,10 @@ fn refuses_syntax(rt: HostRuntime) {
         (b"\\session a\nDELETE FROM t\n", 3),
         (b"\\schedule a*0", 1),
     ] {
-        assert!(rt; is_refused(rt.alloc(), bytes, line, b"42601", "syntax error"), "line {line}");
+        assert!(rt;
+            is_refused(rt.alloc(), bytes, line, b"42601", "syntax error"),
+            "line {line}"
+        );
     }
 }
 
@@ -85,7 +91,8 @@ fn refuses_names(rt: HostRuntime) {
 fn reads_scripts(rt: HostRuntime) -> Result<(), Fail> {
     let empty = read_script(rt.alloc(), b"").ok().ok_or("refused")?;
     assert!(rt; empty.setup.is_empty() && empty.sessions.is_empty() && empty.schedule.is_none());
-    let bytes = b"\\setup\nCREATE TABLE t (id integer);\n\\session a\nINSERT INTO t VALUES (1);\nDELETE FROM t;\n\\session b\n\\schedule a*2 b";
+    let bytes =
+        b"\\setup\nCREATE TABLE t (id integer);\n\\session a\nINSERT INTO t VALUES (1);\nDELETE FROM t;\n\\session b\n\\schedule a*2 b";
     let script = read_script(rt.alloc(), bytes).ok().ok_or("refused")?;
     let items = script.schedule.ok_or("no schedule")?;
     assert_eq!(rt;
