@@ -100,7 +100,7 @@ delete scope = word (codes "delete") ▸ end_without (returning ∷ []) (mapped 
 unfoldable pub columns : Rule Columns
 columns = Either (Sign Times ∷ []) (mapped (λ star. All_columns) (sign Times)) (mapped Named_columns names)
 
--- a lock waits
+-- behind a lock: it waits for others
 abbrev pub no_wait : List Refusal
 no_wait = refuse_word (codes "nowait") (codes "NOWAIT is not supported") ∷ refuse_word (codes "skip") (codes "SKIP LOCKED is not supported") ∷ []
 

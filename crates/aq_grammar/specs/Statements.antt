@@ -56,7 +56,7 @@ supported_in_setup = Either (Keyword (codes "create") ∷ []) (word (codes "crea
 unfoldable pub setup_statement : Rule Statement
 setup_statement = Unless refused_in_setup supported_in_setup
 
--- BEGIN and its kin
+-- a statement on the transaction block or a savepoint
 unfoldable pub block_statement : Rule Statement
 block_statement =
     Either (Keyword (codes "begin") ∷ []) begin

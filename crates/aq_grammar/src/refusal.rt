@@ -92,7 +92,7 @@ pub fn refuse_behind_insert(alloc: Global, tokens: &Lexed<'_>) -> Result<(), Rea
     Ok(())
 }
 
-/// A lock waits.
+/// A lock waits for others: neither NOWAIT nor SKIP LOCKED stands behind it.
 #[tactic(auto, unfolding(crate::specs::Steps::RefusesSo), using(crate::proofs::Refusing::refuses_as))]
 pub fn refuse_no_wait(alloc: Global, tokens: &Lexed<'_>) -> Result<(), ReadFault>
     ensures { RefusesSo no_wait result tokens.now }

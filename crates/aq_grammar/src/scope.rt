@@ -1,3 +1,5 @@
+//! What an expression may name.
+
 /// Where an expression stands, which says what it may name.
 #[derive(Clone, Copy, Debug, PartialEq, Eq)]
 pub enum Scope {

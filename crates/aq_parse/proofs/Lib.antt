@@ -6,3 +6,4 @@ pub mod Levels
 pub mod TooLong
 pub mod StatementFits
 pub mod ParsedAt
+pub mod RefusedOnce

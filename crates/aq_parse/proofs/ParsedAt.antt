@@ -49,7 +49,7 @@ cut_at tokens from at front rest within e is =
           ∙ drop_at front rest (at - from) so_many;
     }
 
-two_parts : (tokens : List PlacedLexeme) (from at : ℕ) → from ≤ at → drop from tokens ≡ between from at tokens ++ drop at tokens
+pub two_parts : (tokens : List PlacedLexeme) (from at : ℕ) → from ≤ at → drop from tokens ≡ between from at tokens ++ drop at tokens
 two_parts tokens from at behind =
     let there : from + (at - from) ≡ at = omega arith in
     sym (take-append-drop (at - from) (drop from tokens))

@@ -24,7 +24,7 @@ mod update;
 mod whole;
 mod words;
 
-pub use laws::one_statement;
+pub use laws::{one_refusal, one_statement};
 pub use parsing::{ParseFault, Parsed, parse};
 pub use statements::{Place, statement};
 

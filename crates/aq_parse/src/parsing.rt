@@ -33,7 +33,7 @@ pub enum ParseFault {
     /// A limit is passed at the token: too many tokens in an expression, too many open IFs, or a name, text or integer that is too long or too large.
     #[error("token {at} passes a limit")]
     Limit { at: usize, fault: SqlFault },
-    /// A form that is known and not supported begins at the token.
+    /// A form that is known and not supported begins at the token; `name` is the text of its fault, as `BEFORE triggers are not supported`.
     #[error("a form that is not supported begins at token {at}")]
     Unsupported { at: usize, name: TextVal },
     /// No statement goes on with the token, or the tokens end too early.

@@ -68,7 +68,7 @@ fn setup_statement<'a>(alloc: Global, tokens: &Lexed<'a>) -> Read<'a, Statement>
     supported_in_setup(alloc, tokens)
 }
 
-/// COMMIT, ROLLBACK and the other statements that begin or end a block.
+/// COMMIT, ROLLBACK and the other statements on the transaction block and its savepoints.
 #[tactic(auto, unfolding(aq_grammar::specs::Statements::block_statement))]
 fn block_statement<'a>(alloc: Global, tokens: &Lexed<'a>) -> Read<'a, Statement>
     ensures { Gives (λ x. x) result (reads block_statement tokens.now) }

@@ -1,4 +1,4 @@
-//! Transaction blocks and savepoints (PostgreSQL manual, pages BEGIN, COMMIT, ROLLBACK, SAVEPOINT and their kin).
+//! Transaction blocks and savepoints (PostgreSQL manual, pages BEGIN, START TRANSACTION, COMMIT, ROLLBACK, SAVEPOINT, RELEASE SAVEPOINT, ROLLBACK TO SAVEPOINT).
 
 ghost use Rattle.std.specs.Prelude.{◌≡◌, codes};
 ghost use Rattle.aq_base.specs.declared.statement.Statement.TheVariants.{Commit, Rollback};

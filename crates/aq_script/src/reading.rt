@@ -101,7 +101,7 @@ fn broken(alloc: Global, bytes: &[u8], at: usize) -> Result<ScriptFault, NoMemor
 
 /// The script that bytes are, or the first line that is refused.
 ///
-/// The line is that of the first token through which the bytes begin no script, at which a limit is passed or a form begins that is not supported;
+/// The line is that of the first token through which the bytes begin no script, at which a limit is passed, a form begins that is not supported or a session gets a name again;
 /// that of the first byte at which no token begins; or that of the end of the bytes.
 #[tactic(auto, using(crate::proofs::OneLine::no_reading))]
 pub fn read_script(alloc: Global, bytes: &[u8]) -> Result<Script, ScriptFault>
