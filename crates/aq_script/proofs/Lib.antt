@@ -1,3 +1,4 @@
+pub mod Loops
 pub mod Each
 pub mod Fit
 pub mod Lines

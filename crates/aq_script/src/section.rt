@@ -1,9 +1,10 @@
 //! The statements of a section.
 
-ghost use Rattle.std.specs.Prelude.{◌≡◌, ◌-◌, ℕ, length};
+ghost use Rattle.std.specs.Prelude.{◌≡◌, None};
 ghost use Rattle.aq_grammar.specs.Terminals.{begins};
+ghost use Rattle.aq_grammar.specs.Rules.{refused};
 ghost use Rattle.aq_grammar.specs.Steps.{Gives, RefusesSo};
-ghost use Rattle.aq_script.specs.Sections.{statement_limit, kinds_of};
+ghost use Rattle.aq_script.specs.Sections.{kinds_of};
 ghost use Rattle.aq_script.specs.Parsing.{section_of, read_placed, refused_behind, read_all_statements};
 
 use aq_base::{List, Placed};
@@ -16,7 +17,7 @@ use aq_parse::{Place, statement};
 use std::alloc::Global;
 
 /// The number of statements that a script may have.
-pub(crate) const MAX_STATEMENTS: usize = 65536;
+const MAX_STATEMENTS: usize = 65536;
 
 /// Whether a statement of the section begins the tokens.
 fn begins_statement(place: Place, tokens: &Lexed<'_>) -> bool
@@ -28,16 +29,16 @@ fn begins_statement(place: Place, tokens: &Lexed<'_>) -> bool
     }
 }
 
-/// What is refused where a statement may begin, where so many more may come.
+/// What is refused where a statement may begin, behind so many of them.
 fn refuse_behind(
     alloc: Global,
     place: Place,
-    room: usize,
+    statements: usize,
     tokens: &Lexed<'_>,
 ) -> Result<(), ReadFault>
-    ensures { (statements : ℕ) → room ≡ statement_limit - statements → RefusesSo (refused_behind (section_of place) statements) result tokens.now }
+    ensures { RefusesSo (refused_behind (section_of place) statements) result tokens.now }
 {
-    if room == 0 && begins_statement(place, tokens) {
+    if statements >= MAX_STATEMENTS && begins_statement(place, tokens) {
         return Err(passes_limit(alloc, tokens, "more than 65536 statements"));
     }
     match place {
@@ -56,26 +57,26 @@ fn placed<'a>(alloc: Global, place: Place, tokens: &Lexed<'a>) -> Read<'a, Place
     Ok((Placed { line, statement }, rest))
 }
 
-/// The statements of a section, as many as stand there, where so many may come.
+/// The statements of a section, as many as stand there, behind so many of those before it.
 pub(crate) fn statements<'a>(
     alloc: Global,
     place: Place,
-    room: usize,
+    before: usize,
     tokens: &Lexed<'a>,
 ) -> Read<'a, List<Placed>>
-    ensures { (statements : ℕ) → room ≡ statement_limit - statements → Gives (λ x. x) result (read_all_statements (section_of place) statements tokens.now) }
+    ensures { Gives (λ x. x) result (read_all_statements (section_of place) before tokens.now) }
 {
     let mut found = List::new(alloc);
-    let mut left = room;
+    let mut count = before;
     let mut rest = tokens.copied();
     'statements: loop {
-        refuse_behind(alloc, place, left, &rest)?;
+        refuse_behind(alloc, place, count, &rest)?;
         if !begins_statement(place, &rest) {
             return Ok((found, rest));
         }
         let (next, behind) = placed(alloc, place, &rest)?;
         found.push(next)?;
-        left = left.saturating_sub(1);
+        count += 1;
         rest = behind;
     }
 }

@@ -1,8 +1,8 @@
 //! The sessions of a script.
 
-ghost use Rattle.std.specs.Prelude.{◌≡◌, ◌-◌, ℕ, length, IfOk};
+ghost use Rattle.std.specs.Prelude.{◌≡◌, IfOk};
 ghost use Rattle.aq_grammar.specs.Steps.{Gives, RefusesSo};
-ghost use Rattle.aq_script.specs.Sections.{statement_limit, refused_names, refused_sessions, repeated_name, names_of};
+ghost use Rattle.aq_script.specs.Sections.{refused_names, refused_sessions, repeated_name, names_of};
 ghost use Rattle.aq_script.specs.Parsing.{read_name, read_session, read_all_sessions};
 
 use crate::section::statements;
@@ -58,17 +58,17 @@ fn name<'a>(alloc: Global, sessions: &[SessionText], tokens: &Lexed<'a>) -> Read
     plain_name(alloc, &rest)
 }
 
-/// A session behind others, where so many statements may come.
+/// A session behind others, and behind so many statements.
 fn session<'a>(
     alloc: Global,
     sessions: &[SessionText],
-    room: usize,
+    before: usize,
     tokens: &Lexed<'a>,
 ) -> Read<'a, SessionText>
-    ensures { (statements : ℕ) → room ≡ statement_limit - statements → Gives (λ x. x) result (read_session statements (names_of sessions.now) tokens.now) }
+    ensures { Gives (λ x. x) result (read_session before (names_of sessions.now) tokens.now) }
 {
     let (name, rest) = name(alloc, sessions, tokens)?;
-    let (statements, rest) = statements(alloc, Place::Session, room, &rest)?;
+    let (statements, rest) = statements(alloc, Place::Session, before, &rest)?;
     Ok((SessionText { name, statements }, rest))
 }
 
@@ -82,24 +82,24 @@ fn refuse_sessions(alloc: Global, sessions: usize, tokens: &Lexed<'_>) -> Result
     Ok(())
 }
 
-/// The sessions of a script, as many as stand there, where so many statements may come.
+/// The sessions of a script, as many as stand there, behind so many statements.
 pub(crate) fn sessions<'a>(
     alloc: Global,
-    room: usize,
+    before: usize,
     tokens: &Lexed<'a>,
 ) -> Read<'a, List<SessionText>>
-    ensures { (statements : ℕ) → room ≡ statement_limit - statements → Gives (λ x. x) result (read_all_sessions statements tokens.now) }
+    ensures { Gives (λ x. x) result (read_all_sessions before tokens.now) }
 {
     let mut found = List::new(alloc);
-    let mut left = room;
+    let mut count = before;
     let mut rest = tokens.copied();
     'sessions: loop {
         refuse_sessions(alloc, found.len(), &rest)?;
         if !is_heading(&rest, Directive::Session) {
             return Ok((found, rest));
         }
-        let (next, behind) = session(alloc, found.as_slice(), left, &rest)?;
-        left = left.saturating_sub(next.statements.len());
+        let (next, behind) = session(alloc, found.as_slice(), count, &rest)?;
+        count += next.statements.len();
         found.push(next)?;
         rest = behind;
     }
