@@ -29,6 +29,7 @@ pub mod Refusing
 pub mod AtEnd
 pub mod RefusedAt
 pub mod FirstRefused
+pub mod OneRead
 pub mod Short
 pub mod ShortFit
 pub mod Each

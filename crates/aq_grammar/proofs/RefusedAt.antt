@@ -152,8 +152,18 @@ module _ {A : Type 0} (Spelled : Form A) (bars : Bar) where
         → IsRefusedAt Spelled bars other rest two → (front ≡ other) × (place ≡ rest)
     one_place front place other rest one two e first second = one_of front place other rest one two (compare front place other rest e) first second
 
+    -- no token is refused in a beginning in which nothing is refused
+    pub none_in_beginning : (tokens front : List PlacedLexeme) (token : PlacedLexeme) (more : List PlacedLexeme) (fault : SqlFault) → IsClear bars tokens []
+        → IsClear BarsSubqueries tokens [] → Begins Spelled tokens → tokens ≡ front ++ token ∷ more → IsRefusedAt Spelled bars front (token ∷ more) fault → ⊥
+    none_in_beginning tokens front token more fault clear no_subquery begun e at =
+        let begun_so = subst (λ (u : List PlacedLexeme). Begins Spelled u) e begun in
+        not_refused_there front token more [] (subst (λ (u : List PlacedLexeme). IsClear bars u []) e clear)
+        (subst (λ (u : List PlacedLexeme). IsClear BarsSubqueries u []) e no_subquery) begun_so (short_begun front token more begun_so) fault
+        (subst (λ (u : List PlacedLexeme). FaultAt Spelled bars front u fault) (sym (append-nil (token ∷ more))) at.fault_at)
+
     module _ (none : (u : List PlacedLexeme) → Begins Spelled u → HasSubquery u → ⊥) where
-      no_subqueries : (u : List PlacedLexeme) → Begins Spelled u → IsClear BarsSubqueries u []
+      -- no subquery lies within a beginning
+      pub no_subqueries : (u : List PlacedLexeme) → Begins Spelled u → IsClear BarsSubqueries u []
       no_subqueries u b before token [] fault e is = let no_more = (and_parts (fits (Sign OpenParen) token) false is).1 in cc
       no_subqueries u b before token (next ∷ more) fault e is = none u b (pair_within u before token next more (more ++ []) e is)
 
@@ -162,11 +172,7 @@ module _ {A : Type 0} (Spelled : Form A) (bars : Bar) where
           → IsRefusedAt Spelled bars front place fault → ⊥
       none_in_whole x tokens front [] fault s clear e at = at.fault_at.0 x (subst (λ (u : List PlacedLexeme). Spelled x u) (e ∙ append-nil front) s)
       none_in_whole x tokens front (token ∷ more) fault s clear e at =
-          let begun = begins_whole Spelled x tokens s in
-          let begun_so = subst (λ (u : List PlacedLexeme). Begins Spelled u) e begun in
-          not_refused_there front token more [] (subst (λ (u : List PlacedLexeme). IsClear bars u []) e clear)
-          (subst (λ (u : List PlacedLexeme). IsClear BarsSubqueries u []) e (no_subqueries tokens begun)) begun_so (short_begun front token more begun_so) fault
-          (subst (λ (u : List PlacedLexeme). FaultAt Spelled bars front u fault) (sym (append-nil (token ∷ more))) at.fault_at)
+          let begun = begins_whole Spelled x tokens s in none_in_beginning tokens front token more fault clear (no_subqueries tokens begun) begun e at
 
   -- one fault
   module _ (agree : HasOneFault bars) where

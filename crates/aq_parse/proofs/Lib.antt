@@ -4,3 +4,5 @@ pub mod FewerTokens
 pub mod Blocks
 pub mod Levels
 pub mod TooLong
+pub mod StatementFits
+pub mod ParsedAt

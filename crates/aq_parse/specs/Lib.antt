@@ -5,3 +5,4 @@ pub mod ColumnConstraints
 pub mod Triggers
 pub mod Bodies
 pub mod Statements
+pub mod Parsed

@@ -8,8 +8,10 @@ mod columns;
 mod delete;
 mod expression;
 mod insert;
+mod laws;
 mod modes;
 mod operators;
+mod parsing;
 mod references;
 mod rows;
 mod select;
@@ -22,4 +24,6 @@ mod update;
 mod whole;
 mod words;
 
+pub use laws::one_statement;
+pub use parsing::{ParseFault, Parsed, parse};
 pub use statements::{Place, statement};

@@ -12,4 +12,6 @@ pub mod Subqueries
 pub mod Places
 pub mod Faults
 pub mod Refusals
+pub mod RefusedLines
+pub mod OneLine
 pub mod Worked

@@ -1,3 +1,4 @@
 pub mod Sections
 pub mod Parsing
 pub mod Reading
+pub mod RefusedLines
