@@ -1,8 +1,10 @@
 //! The sessions of a script.
 
-ghost use Rattle.std.specs.Prelude.{◌≡◌, IfOk};
+ghost use Rattle.std.specs.Prelude.{◌≡◌, ◌&&◌, [], ◌∷◌, nat_le, IfOk};
+ghost use Rattle.aq_lex.specs.declared.token.Directive.TheVariants.{Session};
+ghost use Rattle.aq_grammar.specs.Terminals.{Heading, begins};
 ghost use Rattle.aq_grammar.specs.Steps.{Gives, RefusesSo};
-ghost use Rattle.aq_script.specs.Sections.{refused_names, refused_sessions, repeated_name, names_of};
+ghost use Rattle.aq_script.specs.Sections.{session_limit, refused_names, refused_sessions, repeated_name, names_of};
 ghost use Rattle.aq_script.specs.Parsing.{read_name, read_session, read_all_sessions};
 
 use crate::section::statements;
@@ -30,6 +32,7 @@ fn repeated_name(alloc: Global, name: &TextVal) -> Result<SqlFault, NoMemory>
 }
 
 /// No session has the name of one before it.
+#[tactic(auto, using(aq_grammar::proofs::Refusing::refuses_none))]
 fn refuse_names(
     alloc: Global,
     sessions: &[SessionText],
@@ -72,11 +75,18 @@ fn session<'a>(
     Ok((SessionText { name, statements }, rest))
 }
 
+/// Whether the tokens begin one session more than there may be, behind so many.
+fn passes_sessions(sessions: usize, tokens: &Lexed<'_>) -> bool
+    ensures { result ≡ (nat_le session_limit sessions && begins (Heading Session ∷ []) tokens.now) }
+{
+    sessions >= MAX_SESSIONS && is_heading(tokens, Directive::Session)
+}
+
 /// No session comes behind as many as a script may have.
 fn refuse_sessions(alloc: Global, sessions: usize, tokens: &Lexed<'_>) -> Result<(), ReadFault>
     ensures { RefusesSo (refused_sessions sessions) result tokens.now }
 {
-    if sessions >= MAX_SESSIONS && is_heading(tokens, Directive::Session) {
+    if passes_sessions(sessions, tokens) {
         return Err(passes_limit(alloc, tokens, "more than 16 sessions"));
     }
     Ok(())
