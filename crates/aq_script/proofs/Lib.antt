@@ -1,8 +1,13 @@
+pub mod Loops
+pub mod Limits
+pub mod AtPlace
+pub mod Names
 pub mod Each
 pub mod Fit
 pub mod Lines
 pub mod Marked
 pub mod Statements
+pub mod Shorter
 pub mod Sections
 pub mod Scripts
 pub mod Whole

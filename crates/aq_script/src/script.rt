@@ -6,7 +6,7 @@ ghost use Rattle.aq_grammar.specs.Steps.{Gives, Fails};
 ghost use Rattle.aq_script.specs.Parsing.{read_setup, read_script, whole_script};
 
 use crate::items::schedule;
-use crate::section::{MAX_STATEMENTS, statements};
+use crate::section::statements;
 use crate::sessions::sessions;
 use aq_base::{List, Placed, Script};
 use aq_grammar::{Read, ReadFault, heading, is_heading};
@@ -22,7 +22,7 @@ fn setup<'a>(alloc: Global, tokens: &Lexed<'a>) -> Read<'a, List<Placed>>
         return Ok((List::new(alloc), tokens.copied()));
     }
     let ((), rest) = heading(tokens, Directive::Setup)?;
-    statements(alloc, Place::Setup, MAX_STATEMENTS, &rest)
+    statements(alloc, Place::Setup, 0, &rest)
 }
 
 /// A script, and the tokens with which it doesn't go on.
@@ -30,8 +30,7 @@ fn script<'a>(alloc: Global, tokens: &Lexed<'a>) -> Read<'a, Script>
     ensures { Gives (λ x. x) result (read_script tokens.now) }
 {
     let (setup, rest) = setup(alloc, tokens)?;
-    let room = MAX_STATEMENTS.saturating_sub(setup.len());
-    let (sessions, rest) = sessions(alloc, room, &rest)?;
+    let (sessions, rest) = sessions(alloc, setup.len(), &rest)?;
     let (schedule, rest) = schedule(alloc, &rest)?;
     let script = Script {
         setup,
