@@ -24,9 +24,10 @@ refused_once place tokens from at behind one other first second =
     let whole = two_parts tokens from at first.behind in
     let other_whole = two_parts tokens from behind second.behind in
     let same =
-        one_place (Spells (statement_of place)) (Bars (statement_of place)) (statement_short place) (between from at tokens) (drop at tokens) (between from behind tokens) (drop behind tokens)
-        one other (sym whole ∙ other_whole) first.refused second.refused in
+    one_place (Spells (statement_of place)) (Bars (statement_of place)) (statement_short place) (between from at tokens) (drop at tokens) (between from behind tokens) (drop behind tokens)
+    one other (sym whole ∙ other_whole) first.refused second.refused in
     let there = subst (λ (u : List PlacedLexeme). FaultAt (Spells (statement_of place)) (Bars (statement_of place)) u (drop behind tokens) other) (sym same.0) second.refused.fault_at in
-    let here = subst (λ (u : List PlacedLexeme). FaultAt (Spells (statement_of place)) (Bars (statement_of place)) (between from at tokens) u other) (sym same.1) there in
-    (same_place tokens at behind first.within second.within same.1,
-    one_fault (Spells (statement_of place)) (Bars (statement_of place)) (statement_one_fault place) (between from at tokens) (drop at tokens) one other first.refused.fault_at here)
+    let here = subst (λ (u : List PlacedLexeme). FaultAt (Spells (statement_of place)) (Bars (statement_of place)) (between from at tokens) u other) (sym same.1) there in (
+      same_place tokens at behind first.within second.within same.1,
+      one_fault (Spells (statement_of place)) (Bars (statement_of place)) (statement_one_fault place) (between from at tokens) (drop at tokens) one other first.refused.fault_at here,
+    )

@@ -1,6 +1,7 @@
 -- What the kinds of answer rule out.
 use Rattle.std.proofs.Common.{◌≡◌, ℕ, ◌<◌, ◌≤◌, Bool, true, false, List, [], ◌∷◌, length, Option, Some, None, refl, sym, ap, subst, ◌∙◌, arith, Result, Ok, Err}
 use Rattle.std.specs.Prelude.{IfSome, IfOk}
+use Rattle.std.specs.Io.KnownBytes.{Appends}
 use Rattle.aq_base.specs.Names.{Text}
 use Rattle.aq_base.specs.declared.simple.SimpleScript.{SimpleScript}
 use Rattle.aqueue.specs.Answers.{are_replay, script_limit, usage_line, too_long_line, refusal_line, RunsAs, IsReplay, HasNoRun, IsRefusal, IsAnswer, WroteRefusal, is_one_of}
@@ -20,7 +21,7 @@ told input bytes P e h = let at : IfSome (Some bytes) P = subst (λ o. IfSome o 
 what_of : (input : Option (List ℕ)) (number : ℕ) (fault : SqlFault) → IfSome input (λ bytes. (length bytes ≤ script_limit) × IsRefusal bytes number fault × HasNoRun bytes)
     → IfSome input (λ bytes. IsRefusal bytes number fault × HasNoRun bytes)
 what_of None number fault h = tt
-what_of (Some bytes) number fault h = h.1
+what_of (Some bytes) number fault h = (h.1, h.2)
 
 -- the status of the sink's fault is none of them
 pub no_answer_five : (words : List Text) (input : Option (List ℕ)) (status : ℕ) (output : Text) → IsAnswer words input status output → status ≡ 5 → ⊥
@@ -34,7 +35,7 @@ pub refusal_holds : (words : List Text) (input written after : Option (List ℕ)
     → Appends written after output → status ≡ 2 → (are_replay words ≡ true) × WroteRefusal input written after
 refusal_holds words input written after status output (Usage ws i u) took e = absurd (omega arith)
 refusal_holds words input written after status output (Too_long ws i r l) took e = absurd (omega arith)
-refusal_holds words input written after status output (Refused ws i number fault r l) took e = (r, (number, (fault, (what_of input number fault l, took))))
+refusal_holds words input written after status output (Refused ws i number fault r l) took e = (r, (number, (fault, what_of input number fault l, took)))
 refusal_holds words input written after status output (Replayed ws i t r l) took e = absurd (omega arith)
 
 -- bytes that are no script that runs are refused

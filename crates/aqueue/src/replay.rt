@@ -2,10 +2,12 @@
 
 ghost use Rattle.std.specs.Prelude.{◌≡◌, true, IfOk, IfErr};
 ghost use Rattle.aq_base.specs.Scripts.{fits_first_language};
-ghost use Rattle.aqueue.specs.Answers.{IsReplay, IsTextOf, IsRefusal, HasNoRun, not_built};
-ghost use Rattle.aqueue.specs.Faults.{IfScript};
+ghost use Rattle.aq_base.specs.declared.simple.SimpleScript.{SimpleScript};
+ghost use Rattle.aq_simple.specs.Simple.{Runs, not_built_line};
+ghost use Rattle.aqueue.specs.Answers.{RunsAs, IsReplay, IsTextOf, IsRefusal, HasNoRun, not_built};
+ghost use Rattle.aqueue.specs.Faults.{IfScript, run_fault};
 
-use aq_base::{Code, List, NoMemory, SimpleScript, SqlFault, TextVal};
+use aq_base::{Code, List, NoMemory, Script, SimpleScript, SqlFault, TextVal};
 use aq_journal::Shared;
 use aq_machine::Machine;
 use aq_script::{ScriptFault, one_reading, read_script};
@@ -43,24 +45,52 @@ fn not_built(alloc: Global) -> Result<SqlFault, NoMemory>
     })
 }
 
+fn run_fault(fault: ScriptFault) -> RunFault
+    ensures { result ≡ run_fault fault }
+{
+    match fault {
+        ScriptFault::NoMemory => RunFault::NoMemory,
+        ScriptFault::Refused { line, fault } => RunFault::Script { line, fault },
+    }
+}
+
+/// What runs of a script, or the first line with which it leaves what runs.
+fn running(alloc: Global, script: &Script) -> Result<SimpleScript, RunFault>
+    ensures runs { IfOk result (λ simple. Runs script.now simple) }
+    ensures line { IfErr result (λ fault. IfScript fault (λ line why. (line ≡ not_built_line script.now) × (why ≡ not_built))) }
+    ensures none { IfErr result (λ fault. IfScript fault (λ line why. (simple : SimpleScript) → Runs script.now simple → ⊥)) }
+{
+    match simple_script(alloc, script) {
+        Ok(simple) => Ok(simple),
+        Err(SimpleFault::NoMemory) => Err(RunFault::NoMemory),
+        Err(SimpleFault::NotBuilt { line }) => match not_built(alloc) {
+            Ok(fault) => Err(RunFault::Script { line, fault }),
+            Err(_) => Err(RunFault::NoMemory),
+        },
+    }
+}
+
+/// What runs of the script that bytes are, or the first line that is refused.
+fn read_running(alloc: Global, bytes: &[u8]) -> Result<SimpleScript, RunFault>
+    ensures runs { IfOk result (RunsAs bytes.now) }
+    ensures refused { IfErr result (λ fault. IfScript fault (IsRefusal bytes.now)) }
+    ensures none { IfErr result (λ fault. IfScript fault (λ line why. HasNoRun bytes.now)) }
+{
+    one_reading();
+    match read_script(alloc, bytes) {
+        Ok(script) => running(alloc, &script),
+        Err(fault) => Err(run_fault(fault)),
+    }
+}
+
 /// The text of the script's run by the default schedule. It waits for nobody and always returns.
 pub fn replay_script(alloc: Global, bytes: &[u8]) -> Result<List<u8>, RunFault>
     ensures replayed { IfOk result (IsReplay bytes.now) }
     ensures refused { IfErr result (λ fault. IfScript fault (IsRefusal bytes.now)) }
     ensures none { IfErr result (λ fault. IfScript fault (λ line why. HasNoRun bytes.now)) }
 {
-    one_reading();
-    let script = match read_script(alloc, bytes) {
-        Ok(script) => script,
-        Err(ScriptFault::NoMemory) => return Err(RunFault::NoMemory),
-        Err(ScriptFault::Refused { line, fault }) => return Err(RunFault::Script { line, fault }),
-    };
-    match simple_script(alloc, &script) {
+    match read_running(alloc, bytes) {
         Ok(simple) => replayed(alloc, simple).map_err(|_| RunFault::NoMemory),
-        Err(SimpleFault::NoMemory) => Err(RunFault::NoMemory),
-        Err(SimpleFault::NotBuilt { line }) => match not_built(alloc) {
-            Ok(fault) => Err(RunFault::Script { line, fault }),
-            Err(_) => Err(RunFault::NoMemory),
-        },
+        Err(fault) => Err(fault),
     }
 }

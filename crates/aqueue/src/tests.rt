@@ -262,9 +262,7 @@ fn a_journal_steps_and_goes_on_to_the_end(rt: HostRuntime) -> Result<(), Fail> {
         let script = read_script(rt.alloc(), PARENT_AND_CHILD.as_bytes())
             .ok()
             .ok_or("it is a script")?;
-        let simple = simple_script(rt.alloc(), &script)
-            .ok()
-            .ok_or("it runs")?;
+        let simple = simple_script(rt.alloc(), &script).ok().ok_or("it runs")?;
         let mut shared = Shared::new(rt.alloc(), Machine::open(rt.alloc(), simple)?);
         for _ in 0..taken {
             assert!(rt; shared.machine().enabled(SessNo(0)));
