@@ -8,6 +8,7 @@ pub mod Lines
 pub mod Marked
 pub mod Statements
 pub mod Shorter
+pub mod ReadStatements
 pub mod Sections
 pub mod Scripts
 pub mod Whole
