@@ -1,5 +1,5 @@
 -- How the loop over the sessions of a script stands.
-use Rattle.std.proofs.Common.{◌≡◌, ℕ, ◌+◌, ◌≤◌, true, false, List, [], ◌∷◌, ◌++◌, length, ◌⊎◌, inl, inr, Option, None, Result, Ok, Err, refl, sym, subst}
+use Rattle.std.proofs.Common.{◌≡◌, ℕ, ◌+◌, ◌≤◌, true, false, List, [], ◌∷◌, ◌++◌, length, ◌⊎◌, inl, inr, Option, None, Result, Ok, Err, refl, sym, ap, subst, Fits, w64, arith}
 use Rattle.aq_base.specs.Names.{Text as Bytes}
 use Rattle.aq_base.specs.declared.script.Placed.{Placed}
 use Rattle.aq_base.specs.declared.script.SessionText.{SessionText}
@@ -36,9 +36,19 @@ behind_name statements (Read text rest) =
     named_within statements text (read_all_statements in_session statements rest) (λ found last read. statements_within in_session statements rest last found read)
 behind_name statements (Stop reason rest) = tt
 
-pub session_within : (statements : ℕ) (names : List Bytes) (tokens rest : List PlacedLexeme) (session : SessionText) → read_session statements names tokens ≡ Read session rest
+session_within : (statements : ℕ) (names : List Bytes) (tokens rest : List PlacedLexeme) (session : SessionText) → read_session statements names tokens ≡ Read session rest
     → (session.statements ≡ []) ⊎ (statements + length session.statements ≤ statement_limit)
 session_within statements names tokens rest session read = subst (IsWithin statements) read (behind_name statements (read_name names tokens))
+
+fits_if_within : (statements more : ℕ) (found : List Placed) → Fits w64 statements → more ≡ length found → (found ≡ []) ⊎ (statements + length found ≤ statement_limit)
+    → Fits w64 (statements + more)
+fits_if_within statements more found fits is_length (inl none) = let no_more : length found ≡ 0 = ap length none in omega (arith, fits, is_length, no_more)
+fits_if_within statements more found fits is_length (inr within) = omega (arith, is_length, within)
+
+pub session_fits_in : (statements more : ℕ) (sessions : List SessionText) (tokens rest : List PlacedLexeme) (session : SessionText) → Fits w64 statements
+    → more ≡ length session.statements → read_session statements (names_of sessions) tokens ≡ Read session rest → Fits w64 (statements + more)
+session_fits_in statements more sessions tokens rest session fits is_length read =
+    fits_if_within statements more session.statements fits is_length (session_within statements (names_of sessions) tokens rest session read)
 
 -- ---- the loop
 
