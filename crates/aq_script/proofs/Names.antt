@@ -1,5 +1,5 @@
 -- The names of sessions, one after the other.
-use Rattle.std.proofs.Common.{◌≡◌, ℕ, zero, suc, ◌<◌, ◌≤◌, Bool, true, List, [], ◌∷◌, ◌++◌, drop, length, map, get_or, if◌then◌else◌, Option, Some, None, Ok, Err, refl, sym, ap, ◌∙◌, subst, arith}
+use Rattle.std.proofs.Common.{◌≡◌, ℕ, zero, suc, ◌<◌, ◌≤◌, Bool, true, List, [], ◌∷◌, ◌++◌, drop, length, get_or, if◌then◌else◌, Some, Ok, Err, refl, sym, ap, ◌∙◌, subst, arith}
 use Rattle.std.proofs.lemmas.List.{drop_all}
 use Rattle.aq_base.specs.declared.fault.SqlFault.{SqlFault}
 use Rattle.aq_base.specs.declared.script.SessionText.{SessionText}
@@ -29,14 +29,13 @@ module _ (tokens : List PlacedLexeme) (sessions : List SessionText) (at : ℕ)
       → begin_with (Keyword session.name ∷ []) tokens ≡ true → left ≡ length tokens → fault ≡ repeated_name session.name
       → RefusesSo (refused_names (names_of sessions)) (Err (Refused left fault)) tokens
   unfolding RefusesSo
-  name_is_refused session left fault less is begun is_left is_fault =
-      (
-        is_left,
-        sym so_far
+  name_is_refused session left fault less is begun is_left is_fault = (
+    is_left,
+    sym so_far
         ∙ (name_or_others tokens sessions at session less is
         ∙ (ap (λ (b : Bool). if b then Some (repeated_name session.name) else refused (refused_names (names_of (drop (suc at) sessions))) tokens) begun
         ∙ ap (λ (f : SqlFault). Some f) (sym is_fault))),
-      )
+  )
 
   -- no session has it
   pub no_name_is_refused : length sessions ≤ at → RefusesSo (refused_names (names_of sessions)) (Ok tt) tokens

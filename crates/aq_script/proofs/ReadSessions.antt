@@ -1,5 +1,5 @@
 -- How the loop over the sessions of a script stands.
-use Rattle.std.proofs.Common.{◌≡◌, ℕ, ◌+◌, ◌≤◌, true, false, List, [], ◌∷◌, ◌++◌, length, ◌⊎◌, inl, inr, Option, None, Result, Ok, Err, refl, sym, ap, subst, Fits, w64, arith}
+use Rattle.std.proofs.Common.{◌≡◌, ℕ, ◌+◌, ◌≤◌, true, false, List, [], ◌∷◌, ◌++◌, length, ◌⊎◌, inl, inr, None, Result, Ok, Err, refl, sym, ap, subst, Fits, w64, arith}
 use Rattle.aq_base.specs.Names.{Text as Bytes}
 use Rattle.aq_base.specs.declared.script.Placed.{Placed}
 use Rattle.aq_base.specs.declared.script.SessionText.{SessionText}

@@ -1,5 +1,5 @@
 -- How the loop over the statements of a section stands, and how many statements are read.
-use Rattle.std.proofs.Common.{◌≡◌, ℕ, zero, suc, ◌+◌, ◌<◌, ◌≤◌, ◌&&◌, Bool, true, false, List, [], ◌∷◌, ◌++◌, length, nat_le, if◌then◌else◌, ◌⊎◌, inl, inr, Option, Some, None, Ok, Err, refl, sym, ap, ◌∙◌, subst, arith}
+use Rattle.std.proofs.Common.{◌≡◌, ℕ, zero, suc, ◌+◌, ◌<◌, ◌≤◌, ◌&&◌, Bool, true, false, List, [], ◌∷◌, ◌++◌, length, nat_le, if◌then◌else◌, ◌⊎◌, inl, inr, Option, Some, None, Ok, Err, refl, sym, ◌∙◌, subst, arith}
 use Rattle.std.proofs.lemmas.Bool.{cond-false, cond_both}
 use Rattle.std.proofs.lemmas.Grind.{common_steps}
 use Rattle.aq_base.specs.declared.fault.SqlFault.{SqlFault}
@@ -7,7 +7,7 @@ use Rattle.aq_base.specs.declared.script.Placed.{Placed}
 use Rattle.aq_lex.specs.Lexemes.{PlacedLexeme}
 use Rattle.aq_grammar.specs.Terminals.{begins, begin_with}
 use Rattle.aq_grammar.specs.Rules.{Refusal, refused}
-use Rattle.aq_grammar.specs.Reading.{Outcome, Read, Stop, Reader, ◌>>=◌, stop_or, read_both}
+use Rattle.aq_grammar.specs.Reading.{Outcome, Read, Stop, ◌>>=◌, stop_or}
 use Rattle.aq_grammar.specs.Steps.{Fails, RefusesSo}
 use Rattle.aq_grammar.specs.declared.fault.ReadFault.{ReadFault}
 use Rattle.aq_parse.specs.declared.statements.Place.{Place}

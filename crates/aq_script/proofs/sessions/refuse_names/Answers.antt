@@ -1,4 +1,4 @@
-use Rattle.std.proofs.Common.{rules, ◌≡◌, ◌≤◌, [], ◌∷◌, length, true, sym, ap, ◌∙◌, List, ℕ, Bool, arith}
+use Rattle.std.proofs.Common.{◌≡◌, [], ◌∷◌, true, sym, ap, ◌∙◌, arith}
 use Rattle.aq_base.specs.Names.{Text as Bytes}
 use Rattle.aq_grammar.specs.Terminals.{Keyword, begin_with}
 use Rattle.aq_script.proofs.Names.{name_is_refused, no_name_is_refused}

@@ -1,6 +1,5 @@
-use Rattle.std.proofs.Common.{rules, ◌≡◌, ℕ, ◌+◌, ◌∷◌, ◌++◌, [], length, true, false, Ok, Err, ◌⊎◌, inl, inr, sym, ap, ◌∙◌, List, Fits, w64, arith, ◌≤◌, subst}
+use Rattle.std.proofs.Common.{rules, ◌≡◌, ℕ, ◌+◌, ◌∷◌, ◌++◌, [], length, true, false, Ok, Err, sym, List, subst}
 use Rattle.aq_base.specs.declared.script.SessionText.{SessionText}
-use Rattle.aq_base.specs.declared.script.Placed.{Placed}
 use Rattle.aq_lex.specs.declared.token.Directive.TheVariants.{Session}
 use Rattle.aq_grammar.specs.Terminals.{Heading, begins}
 use Rattle.aq_grammar.specs.Reading.{Read}
