@@ -8,6 +8,8 @@ pub mod Lines
 pub mod Marked
 pub mod Statements
 pub mod Shorter
+pub mod ReadStatements
+pub mod ReadSessions
 pub mod Sections
 pub mod Scripts
 pub mod Whole

@@ -1,5 +1,5 @@
 -- Behind an item, a statement and a session fewer tokens are left.
-use Rattle.std.proofs.Common.{◌≡◌, ℕ, ◌<◌, Bool, true, false, List, [], ◌∷◌, length, refl, subst}
+use Rattle.std.proofs.Common.{◌≡◌, ℕ, ◌<◌, Bool, true, false, List, length, refl, subst}
 use Rattle.aq_base.specs.Names.{Text as Bytes}
 use Rattle.aq_base.specs.declared.script.Item.{Item}
 use Rattle.aq_base.specs.declared.script.Placed.{Placed}
@@ -9,7 +9,6 @@ use Rattle.aq_lex.specs.Lexemes.{PlacedLexeme}
 use Rattle.aq_grammar.specs.Terminals.{PlainName, Heading, text_of}
 use Rattle.aq_grammar.specs.Rules.{refused}
 use Rattle.aq_grammar.specs.Reading.{Read, read_unless}
-use Rattle.aq_grammar.specs.Sets.{marks_by}
 use Rattle.aq_grammar.specs.Nonterminals.{rules, marks, reads_called, reads}
 use Rattle.aq_grammar.proofs.Fit.{rules_fit}
 use Rattle.aq_grammar.proofs.Fuel.{Shortens, shortens_at_least, stop_or_shortens, called_shortens, token_shortens, both_shortens, shortens_by, called_shortens_by}

@@ -1,7 +1,7 @@
 -- The sections of a script, with its limits.
 --     script  = [\setup {statement ;}] {session} [\schedule {item}]
 --     session = \session name {statement ;}         item = name [* count]
-use Rattle.std.specs.Prelude.{◌≡◌, ℕ, ◌+◌, Bool, true, false, List, [], ◌∷◌, ◌++◌, length, map, sum_by, Option, Some, None, codes, nat_lt, if◌then◌else◌, ◌⊎◌}
+use Rattle.std.specs.Prelude.{◌≡◌, ℕ, ◌+◌, List, [], ◌∷◌, ◌++◌, length, map, sum_by, Option, Some, None, codes, nat_lt, if◌then◌else◌, ◌⊎◌}
 use Rattle.aq_base.specs.Names.{Text as Bytes}
 use Rattle.aq_base.specs.declared.fault.SqlFault.{SqlFault}
 use Rattle.aq_base.specs.declared.statement.Statement.{Statement}

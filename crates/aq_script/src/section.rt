@@ -78,7 +78,8 @@ fn refuse_behind(
     refuse_others(alloc, place, tokens)
 }
 
-/// What was read, where a semicolon stands behind it. It is of any type, since all of a statement would be dropped here otherwise.
+/// What was read, where a semicolon stands behind it.
+// It is of any type, so that dropping it is one call: the check runs out of memory on all the parts of a statement.
 fn ended<'a, T: Drop>(x: T, tokens: &Lexed<'a>) -> Read<'a, T>
     ensures { Gives (λ x. x) result (read_both (λ said y. y) (reads (sign Semicolon)) (λ said rest. Read x rest) tokens.now) }
 {

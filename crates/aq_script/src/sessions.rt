@@ -53,6 +53,7 @@ fn refuse_names(
 }
 
 /// The heading of a session behind others.
+#[tactic(auto, unfolding(aq_grammar::specs::Steps::RefusesSo))]
 fn name<'a>(alloc: Global, sessions: &[SessionText], tokens: &Lexed<'a>) -> Read<'a, TextVal>
     ensures { Gives (λ x. x) result (read_name (names_of sessions.now) tokens.now) }
 {
