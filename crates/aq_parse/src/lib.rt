@@ -27,6 +27,3 @@ mod words;
 pub use laws::{one_refusal, one_statement};
 pub use parsing::{ParseFault, Parsed, parse};
 pub use statements::{Place, statement};
-
-#[cfg(test)]
-mod tests;

@@ -87,19 +87,34 @@ fn refuses_names(rt: HostRuntime) {
     }
 }
 
+const EACH_STATEMENT: &[u8] = b"\\setup
+CREATE TABLE c (id integer PRIMARY KEY, a int8 NOT NULL DEFAULT -1, b text REFERENCES p (k) ON DELETE CASCADE DEFERRABLE, UNIQUE (a, b));
+ALTER TABLE ONLY c ADD CONSTRAINT f FOREIGN KEY (a, b) REFERENCES p MATCH FULL;
+CREATE FUNCTION f() RETURNS trigger AS $$ BEGIN IF TG_OP = 'INSERT' THEN RETURN NEW; ELSE RAISE EXCEPTION 'no'; END IF; END; $$ LANGUAGE plpgsql;
+CREATE TRIGGER x AFTER INSERT OR UPDATE OF a ON t FOR EACH ROW WHEN (NEW.a > 0) EXECUTE FUNCTION f();
+CREATE CONSTRAINT TRIGGER x AFTER DELETE ON t DEFERRABLE FOR EACH ROW EXECUTE PROCEDURE f();
+\\session a
+INSERT INTO t (a, b) VALUES (1, DEFAULT), (NULL, 'x'); INSERT INTO t SELECT a, b FROM u WHERE a IS NOT NULL;
+UPDATE t SET a = a + 1, b = DEFAULT WHERE NOT a = 1; DELETE FROM public.t; SELECT * FROM t FOR NO KEY UPDATE;
+SET CONSTRAINTS ALL DEFERRED; BEGIN TRANSACTION ISOLATION LEVEL REPEATABLE READ; START TRANSACTION;
+SAVEPOINT s; ROLLBACK WORK TO s; RELEASE s; END;
+\\session b
+COMMIT;
+\\schedule a*2 b";
+
 #[test]
 fn reads_scripts(rt: HostRuntime) -> Result<(), Fail> {
     let empty = read_script(rt.alloc(), b"").ok().ok_or("refused")?;
     assert!(rt; empty.setup.is_empty() && empty.sessions.is_empty() && empty.schedule.is_none());
-    let bytes =
-        b"\\setup\nCREATE TABLE t (id integer);\n\\session a\nINSERT INTO t VALUES (1);\nDELETE FROM t;\n\\session b\n\\schedule a*2 b";
-    let script = read_script(rt.alloc(), bytes).ok().ok_or("refused")?;
+    let script = read_script(rt.alloc(), EACH_STATEMENT)
+        .ok()
+        .ok_or("refused")?;
     let items = script.schedule.ok_or("no schedule")?;
     assert_eq!(rt;
         (script.setup.len(), script.sessions.len(), items.len()),
-        (1, 2, 2)
+        (5, 2, 2)
     );
-    for (session, statements) in script.sessions.as_slice().iter().zip([2, 0]) {
+    for (session, statements) in script.sessions.as_slice().iter().zip([12, 1]) {
         assert_eq!(rt; session.statements.len(), statements);
     }
     Ok(())

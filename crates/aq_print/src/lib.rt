@@ -1,0 +1,2 @@
+//! Scripts, replies and traces as text.
+#![tactic(auto)]
