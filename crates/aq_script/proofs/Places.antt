@@ -1,16 +1,14 @@
 -- Where reading stops, the refused place is the first that is refused, and there is one such place.
-use Rattle.std.proofs.Common.{◌≡◌, List, [], ◌++◌, sym, ◌∙◌, subst}
+use Rattle.std.proofs.Common.{◌≡◌, List, [], ◌++◌, sym, ◌∙◌}
 use Rattle.aq_base.specs.declared.fault.SqlFault.{SqlFault}
 use Rattle.aq_base.specs.declared.script.Script.{Script}
 use Rattle.aq_lex.specs.Lexemes.{PlacedLexeme}
-use Rattle.aq_grammar.specs.Reading.{Reason, Stop}
+use Rattle.aq_grammar.specs.Reading.{Reason}
 use Rattle.aq_grammar.specs.Places.{IsClear, IsRefusedAt}
 use Rattle.aq_grammar.specs.Stopping.{refused_place}
 use Rattle.aq_grammar.proofs.RefusedAt.{one_place, none_in_whole}
 use Rattle.aq_grammar.proofs.FirstRefused.{StopsAt, IsFirstRefused, first_refused}
 use Rattle.aq_script.specs.Sections.{SpellsScript, BarsScript}
-use Rattle.aq_script.specs.Parsing.{whole_script}
-use Rattle.aq_script.proofs.Whole.{whole_stopped}
 use Rattle.aq_script.proofs.Ends.{script_free_at_end, script_short, script_barred_short}
 use Rattle.aq_script.proofs.Subqueries.{no_subquery_begun}
 
@@ -18,13 +16,6 @@ use Rattle.aq_script.proofs.Subqueries.{no_subquery_begun}
 pub refused_so : (tokens : List PlacedLexeme) (reason : Reason) (rest front : List PlacedLexeme) → tokens ≡ front ++ rest → StopsAt SpellsScript BarsScript reason front rest
     → IsFirstRefused SpellsScript BarsScript tokens (refused_place tokens reason rest)
 refused_so = first_refused SpellsScript BarsScript script_free_at_end script_barred_short no_subquery_begun
-
--- where reading stops, the place is the first that is refused
-pub refused_right : (tokens rest place : List PlacedLexeme) (reason : Reason) (fault : SqlFault) → whole_script tokens ≡ Stop reason rest
-    → refused_place tokens reason rest ≡ (place, fault) → (front : List PlacedLexeme) × (tokens ≡ front ++ place) × IsRefusedAt SpellsScript BarsScript front place fault
-refused_right tokens rest place reason fault e p =
-    let s = whole_stopped tokens rest reason e in
-    subst (λ (at : List PlacedLexeme × SqlFault). IsFirstRefused SpellsScript BarsScript tokens at) p (refused_so tokens reason rest s.front s.whole s.stops)
 
 -- ---- one place
 

@@ -1,9 +1,9 @@
 -- The tokens are a script in which nothing is refused, which is read; or one place is refused first, with one fault, and that place is found.
-use Rattle.std.proofs.Common.{◌≡◌, List, [], ◌++◌, refl, sym, ap₂, subst}
+use Rattle.std.proofs.Common.{◌≡◌, List, [], ◌++◌, sym, subst}
 use Rattle.aq_base.specs.declared.fault.SqlFault.{SqlFault}
 use Rattle.aq_base.specs.declared.script.Script.{Script}
 use Rattle.aq_lex.specs.Lexemes.{PlacedLexeme}
-use Rattle.aq_grammar.specs.Reading.{Outcome, Read, Stop, Reason}
+use Rattle.aq_grammar.specs.Reading.{Outcome, Read, Stop}
 use Rattle.aq_grammar.specs.Places.{IsClear, IsRefusedAt}
 use Rattle.aq_grammar.proofs.RefusedAt.{one_fault}
 use Rattle.aq_script.specs.Sections.{SpellsScript, BarsScript}
@@ -33,21 +33,3 @@ read_from tokens script (Stop reason rest) s clear stops =
 -- a script in which nothing is refused is read
 pub script_is_read : (tokens : List PlacedLexeme) (script : Script) → SpellsScript script tokens → IsClear BarsScript tokens [] → whole_script tokens ≡ Read script []
 script_is_read tokens script s clear = read_from tokens script (whole_script tokens) s clear (whole_right tokens)
-
--- reading stops, and this place is found
-abbrev pub Finds : List PlacedLexeme → Outcome Script → List PlacedLexeme → SqlFault → Type 0
-Finds tokens outcome place fault = (reason : Reason) × (rest : List PlacedLexeme) × (outcome ≡ Stop reason rest) × (refused_place tokens reason rest ≡ (place, fault))
-
-found_from : (tokens front place : List PlacedLexeme) (fault : SqlFault) (outcome : Outcome Script) → tokens ≡ front ++ place → IsRefusedAt SpellsScript BarsScript front place fault
-    → IsWholeRight tokens outcome → Finds tokens outcome place fault
-found_from tokens front place fault (Read script rest) e at (ended, whole) = absurd (none_in_script tokens front place script fault whole.spelled whole.clear e at)
-found_from tokens front place fault (Stop reason rest) e at stops =
-    let found = refused_so tokens reason rest stops.front stops.whole stops.stops in
-    let is = refused_place tokens reason rest in
-    let same = one_refusal tokens found.0 is.0 front place is.1 fault found.1 e found.2 at in
-    (reason, rest, refl, ap₂ (λ (u : List PlacedLexeme) (why : SqlFault). (u, why)) same.1 same.2)
-
--- the first place that is refused is found
-pub refusal_is_found : (tokens front place : List PlacedLexeme) (fault : SqlFault) → tokens ≡ front ++ place → IsRefusedAt SpellsScript BarsScript front place fault
-    → Finds tokens (whole_script tokens) place fault
-refusal_is_found tokens front place fault e at = found_from tokens front place fault (whole_script tokens) e at (whole_right tokens)

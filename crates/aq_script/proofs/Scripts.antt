@@ -13,12 +13,11 @@ use Rattle.aq_grammar.specs.Rules.{Form, Bar, Refusal, SpellsBoth, BarsBoth}
 use Rattle.aq_grammar.specs.Reading.{read_both}
 use Rattle.aq_grammar.specs.Sets.{of_both, marks_by}
 use Rattle.aq_grammar.specs.Nonterminals.{marks, reads, Spells, Bars}
-use Rattle.aq_grammar.proofs.Languages.{HasMarks, IsRight, IsBehindBeginning}
+use Rattle.aq_grammar.proofs.Languages.{HasMarks, IsRight}
 use Rattle.aq_grammar.proofs.Keeping.{AreRepeated, are_repeated}
 use Rattle.aq_grammar.proofs.RightForms.{alike_right}
 use Rattle.aq_grammar.proofs.RightBoth.{BothFit, right_both}
 use Rattle.aq_grammar.proofs.RightFit.{both_of_marks}
-use Rattle.aq_grammar.proofs.Beginning.{barred_both}
 use Rattle.aq_grammar.proofs.Grammar.{is_read_right}
 use Rattle.aq_script.specs.Sections.{item, schedule, script_of, refused_sessions, statements_in, names_of, SpellsSetup, SpellsSession, SpellsSessions, SpellsScript, BarsSetup, BarsSession, BarsSessions, BarsScript}
 use Rattle.aq_script.specs.Parsing.{Before, and_session, read_setup, read_session, read_all_sessions, read_script}
@@ -133,11 +132,6 @@ bars_from u rest fault (inr (front, behind, setup, s, e, inr bar)) = absurd (sch
 pub bars_back : (u rest : List PlacedLexeme) (fault : SqlFault) → BarsScript u rest fault → BarsAll u rest fault
 bars_back u rest fault (inl bar) = inl bar
 bars_back u rest fault (inr (front, behind, setup, s, e, bar)) = inr (front, behind, setup, s, e, inl bar)
-
-pub script_barred : IsBehindBeginning SpellsScript BarsScript
-script_barred u rest fault bar =
-    barred_both script_of SpellsSetup BarsSetup (λ setup. SpellsBehindSetup) (λ setup. BarsBehindSetup (length setup)) script_fit.barred script_fit.some_second
-    script_fit.barred_second u rest fault (bars_back u rest fault bar)
 
 pub script_right : (tokens : List PlacedLexeme) → IsRight SpellsScript BarsScript tokens (read_script tokens)
 script_right tokens =
