@@ -19,6 +19,7 @@ mod simple;
 mod statement;
 mod table;
 mod text;
+mod trace;
 mod trigger;
 mod value;
 
@@ -43,6 +44,7 @@ pub use statement::{Isolation, Statement};
 pub use std::alloc::AllocError as NoMemory;
 pub use table::{AlterTable, CreateTable, TableItem};
 pub use text::TextVal;
+pub use trace::{Ending, ModeOf, TraceEvent, TraceLine};
 pub use trigger::{
     CreateConstraintTrigger, CreateFunction, CreateTrigger, Each, Transition, TransitionTable,
     TriggerEvent,
