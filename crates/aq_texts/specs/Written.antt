@@ -3,13 +3,15 @@ use Rattle.std.specs.Prelude.{ℕ, Bool, true, false, not, ◌&&◌, ◌||◌, L
 use Rattle.std.specs.Char.{to_ascii_lowercase}
 use Rattle.std.specs.Fmt.{decimal}
 use Rattle.aq_base.specs.Names.{Text, same_text, is_reserved}
-use Rattle.aq_lex.specs.Tokens.{is_word, quoted}
+use Rattle.aq_lex.specs.Tokens.{is_word, quoted, directive_bytes}
+use Rattle.aq_lex.specs.declared.token.Directive.{Directive}
 use Rattle.aq_lex.specs.declared.token.Symbol.{Symbol}
 use Rattle.aq_lex.specs.declared.token.Symbol.TheVariants.{OpenParen, CloseParen, Comma, Semicolon, Dot, Plus, Minus, Times, Equal, Unequal, Less, AtMost, Greater, AtLeast, DollarQuote}
 
 pub data Written : Type 0 where
-  -- a word of the language, or a directive, by its letters
+  -- a word of the language, by its letters
   Said : Text → Written
+  Heading : Directive → Written
   -- a name: bare where it reads back as the same unreserved word, and else between quotes
   Name : Text → Written
   Number : ℕ → Written
@@ -20,6 +22,8 @@ pub data Written : Type 0 where
   Sign : Written
   -- the `(` behind the name of a function
   Call : Written
+  -- the `*` between a session and its number of steps
+  Repeat : Written
 
 abbrev pub symbol_text : Symbol → Text
 symbol_text OpenParen = codes "("
@@ -47,16 +51,19 @@ name_text name = if is_bare name then name else quoted 34 name
 
 abbrev pub token_text : Written → Text
 token_text (Said text) = text
+token_text (Heading directive) = directive_bytes directive
 token_text (Name name) = name_text name
 token_text (Number number) = decimal number
 token_text (Literal text) = quoted 39 text
 token_text (Mark symbol) = symbol_text symbol
 token_text Sign = codes "-"
 token_text Call = codes "("
+token_text Repeat = codes "*"
 
--- no blank stands behind it: behind `(`, `.` and the sign of an operand
+-- no blank stands behind it: behind `(`, `.`, the sign of an operand and the `*` of a schedule
 abbrev pub joins_next : Written → Bool
 joins_next (Said text) = false
+joins_next (Heading directive) = false
 joins_next (Name name) = false
 joins_next (Number number) = false
 joins_next (Literal text) = false
@@ -65,10 +72,12 @@ joins_next (Mark Dot) = true
 joins_next (Mark other) = false
 joins_next Sign = true
 joins_next Call = true
+joins_next Repeat = true
 
--- no blank stands before it: before `)`, `,`, `;`, `.` and the parentheses of a function
+-- no blank stands before it: before `)`, `,`, `;`, `.`, the parentheses of a function and the `*` of a schedule
 abbrev pub joins_last : Written → Bool
 joins_last (Said text) = false
+joins_last (Heading directive) = false
 joins_last (Name name) = false
 joins_last (Number number) = false
 joins_last (Literal text) = false
@@ -79,6 +88,7 @@ joins_last (Mark Dot) = true
 joins_last (Mark other) = false
 joins_last Sign = false
 joins_last Call = true
+joins_last Repeat = true
 
 abbrev pub blank_between : Written → Written → Text
 blank_between first second = if joins_next first || joins_last second then [] else 32 ∷ []

@@ -17,9 +17,9 @@ use Rattle.aq_base.specs.declared.trigger.Each.TheVariants as each
 use Rattle.aq_base.specs.declared.statement.Isolation.TheVariants as isolations
 use Rattle.aq_base.specs.declared.statement.Statement.TheVariants as statements
 use Rattle.aq_base.specs.declared.expr.Expr.{Expr}
-use Rattle.aq_print.specs.Canon.{Operand, comparison, operation, operand, between, expression, statement_line, canon}
-use Rattle.aq_print.specs.Written.{say, Mark, Sign, written}
-use Rattle.aq_print.proofs.Expressions.{constant_is, column_is, negation_is, product_is, sum_is, comparison_is, not_is, conjunction_is}
+use Rattle.aq_texts.specs.Canon.{Operand, comparison, operation, operand, between, expression, statement_line, canon}
+use Rattle.aq_texts.specs.Written.{say, Mark, Sign, written}
+use Rattle.aq_texts.proofs.Expressions.{constant_is, column_is, negation_is, product_is, sum_is, comparison_is, not_is, conjunction_is}
 
 abbrev number : (n : ℕ) → Expr
 number n = Constant (values.Int (pos n))

@@ -1,6 +1,5 @@
 -- The canonical text of a script.
 use Rattle.std.specs.Prelude.{ℤ, pos, negsuc, suc, Bool, true, false, List, [], ◌∷◌, ◌++◌, codes, flat_map, map, Option, Some, None, if◌then◌else◌}
-use Rattle.std.specs.Fmt.{decimal}
 use Rattle.aq_base.specs.Names.{Text}
 use Rattle.aq_base.specs.declared.value.Value.{Value}
 use Rattle.aq_base.specs.declared.value.Value.TheVariants.{Null, Bool as Truth, Int, Text as Words}
@@ -66,7 +65,8 @@ use Rattle.aq_base.specs.declared.script.SessionText.{SessionText}
 use Rattle.aq_base.specs.declared.script.Item.{Item}
 use Rattle.aq_base.specs.declared.script.Script.{Script}
 use Rattle.aq_lex.specs.declared.token.Symbol.TheVariants.{CloseParen, Semicolon, Dot, Plus, Minus, Times, Equal, Unequal, Less, AtMost, Greater, AtLeast, DollarQuote}
-use Rattle.aq_print.specs.Written.{Written, say, Name, Number, Literal, Mark, Sign, Call, separated, listed, in_parentheses, columns, written}
+use Rattle.aq_texts.specs.Written.{Written, say, Heading, Name, Number, Literal, Mark, Sign, Call, Repeat, separated, listed, in_parentheses, columns, written}
+use Rattle.aq_lex.specs.declared.token.Directive.TheVariants.{Setup, Session, Schedule}
 
 -- what is printed where it is there
 abbrev pub perhaps : {A : Type 0} → (A → List Written) → Option A → List Written
@@ -360,29 +360,36 @@ abbrev pub line : List Written → Text
 line tokens = written tokens ++ 10 ∷ []
 
 -- a statement is one line, with its `;`
+abbrev pub statement_tokens : Statement → List Written
+statement_tokens s = statement s ++ Mark Semicolon ∷ []
+
 abbrev pub statement_line : Statement → Text
-statement_line s = line (statement s ++ Mark Semicolon ∷ [])
+statement_line s = line (statement_tokens s)
 
 -- ---- scripts
 
-abbrev pub statement_lines : List Placed → Text
-statement_lines found = flat_map (λ placed. statement_line placed.statement) found
+abbrev pub placed_lines : List Placed → List (List Written)
+placed_lines found = map (λ placed. statement_tokens placed.statement) found
 
 -- the setup is printed only where it holds a statement
-abbrev pub setup_lines : List Placed → Text
+abbrev pub setup_lines : List Placed → List (List Written)
 setup_lines [] = []
-setup_lines (first ∷ others) = line (say (codes "\\setup") ∷ []) ++ statement_lines (first ∷ others)
+setup_lines (first ∷ others) = (Heading Setup ∷ []) ∷ placed_lines (first ∷ others)
 
-abbrev pub session_lines : SessionText → Text
-session_lines session = line (say (codes "\\session") ∷ Name session.name ∷ []) ++ statement_lines session.statements
+abbrev pub session_lines : SessionText → List (List Written)
+session_lines session = (Heading Session ∷ Name session.name ∷ []) ∷ placed_lines session.statements
 
--- ` NAME*K`
-abbrev pub item_text : Item → Text
-item_text item = 32 ∷ (item.name ++ 42 ∷ decimal item.count)
+-- `NAME*K`
+abbrev pub item : Item → List Written
+item found = Name found.name ∷ Repeat ∷ Number found.count ∷ []
 
-abbrev pub schedule_line : Option (List Item) → Text
-schedule_line None = []
-schedule_line (Some found) = codes "\\schedule" ++ (flat_map item_text found ++ 10 ∷ [])
+abbrev pub schedule_lines : Option (List Item) → List (List Written)
+schedule_lines None = []
+schedule_lines (Some found) = (Heading Schedule ∷ flat_map item found) ∷ []
 
+abbrev pub script_lines : Script → List (List Written)
+script_lines script = setup_lines script.setup ++ (flat_map session_lines script.sessions ++ schedule_lines script.schedule)
+
+-- the canonical text of a script
 abbrev pub canon : Script → Text
-canon script = setup_lines script.setup ++ (flat_map session_lines script.sessions ++ schedule_line script.schedule)
+canon script = flat_map line (script_lines script)

@@ -6,8 +6,8 @@ use Rattle.aq_base.specs.declared.expr.Comparison.{Comparison}
 use Rattle.aq_base.specs.declared.expr.Expr.{Expr, fold-roll-Expr}
 use Rattle.aq_base.specs.declared.expr.Expr.TheVariants.{Constant, Column, Qualified, Old, New, Operation, Negate, Multiply, Add, Subtract, Compare, IsNull, IsNotNull, IsDistinct, IsNotDistinct, Not, And, Or, rolls-Constant, rolls-Column, rolls-Qualified, rolls-Old, rolls-New, rolls-Operation, rolls-Negate, rolls-Multiply, rolls-Add, rolls-Subtract, rolls-Compare, rolls-IsNull, rolls-IsNotNull, rolls-IsDistinct, rolls-IsNotDistinct, rolls-Not, rolls-And, rolls-Or}
 use Rattle.aq_lex.specs.declared.token.Symbol.TheVariants.{Dot, Plus, Minus, Times}
-use Rattle.aq_print.specs.Written.{say, Name, Mark, Sign}
-use Rattle.aq_print.specs.Canon.{Operand, constant, comparison, atom, operation, operand, between, expression_step, printed}
+use Rattle.aq_texts.specs.Written.{say, Name, Mark, Sign}
+use Rattle.aq_texts.specs.Canon.{Operand, constant, comparison, atom, operation, operand, between, expression_step, printed}
 
 pub constant_is : (value : Value) → printed (Constant value) ≡ atom (constant value)
 constant_is value = ap printed (sym (rolls-Constant value)) ∙ fold-roll-Expr Operand expression_step _

@@ -1,2 +1,0 @@
-//! Scripts, replies and traces as text.
-#![tactic(auto)]
