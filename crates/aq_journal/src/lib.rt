@@ -1,10 +1,9 @@
 //! A machine with the schedule that it has run, and the text of a run.
 #![tactic(auto)]
 
-mod print;
-mod schedule;
 mod shared;
+mod tables;
 mod text;
 
-pub use schedule::Runs;
+pub use aq_print::Runs;
 pub use shared::Shared;

@@ -8,10 +8,10 @@ ghost use Rattle.aq_run.specs.Runs.{IsLeastEnabled, run, IsSchedule};
 ghost use Rattle.aq_run.specs.Texts.{text as run_text};
 ghost use Rattle.aq_journal.specs.Journals.{Journal, IsJournal, Finishes, GoesOn};
 
-use crate::schedule::Runs;
 use crate::text::text;
 use aq_base::{List, NoMemory};
 use aq_machine::Machine;
+use aq_print::Runs;
 use aq_xids::SessNo;
 use std::alloc::Global;
 use std::marker::Model;

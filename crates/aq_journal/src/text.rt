@@ -7,10 +7,10 @@ ghost use Rattle.aq_run.specs.Texts.{given_text, replies_text, tables_text, text
 ghost use Rattle.aq_texts.specs.Schedules.{name_at};
 ghost use Rattle.aq_machine.specs.Givens.{given_shown};
 
-use crate::print::{push_place, push_reply, push_table};
-use crate::schedule::push_schedule;
+use crate::tables::push_table;
 use aq_base::{List, NoMemory, SimpleSession, TabNo, Table};
 use aq_machine::{Given, Machine};
+use aq_print::{push_reply, push_schedule};
 use aq_xids::SessNo;
 use std::alloc::Global;
 
@@ -26,9 +26,12 @@ fn name_of(sessions: &[SimpleSession], s: SessNo) -> &str
 fn push_given(out: &mut Vec<u8>, sessions: &[SimpleSession], given: &Given) -> Result<(), NoMemory>
     ensures { OnOk result (out.new.items ≡ out.old.items ++ given_text (map (λ s. s.name) sessions.now) (given_shown given.now)) }
 {
-    push_place(out, name_of(sessions, given.session), given.statement)?;
-    push_reply(out, &given.line)?;
-    Ok(out.push(b'\n')?)
+    push_reply(
+        out,
+        name_of(sessions, given.session),
+        given.statement,
+        &given.line,
+    )
 }
 
 fn push_replies(

@@ -3,6 +3,7 @@ use Rattle.std.specs.Prelude.{ℕ, true, false, ◌==◌, List, [], ◌∷◌, �
 use Rattle.std.specs.Fmt.{signed_decimal}
 use Rattle.aq_base.specs.Values.{Row}
 use Rattle.aq_base.specs.Names.{Text}
+use Rattle.aq_lex.specs.Tokens.{quoted}
 use Rattle.aq_base.specs.declared.value.Value.{Value}
 use Rattle.aq_base.specs.declared.value.Value.TheVariants.{Null, Bool as Truth, Int, Text as Characters}
 
@@ -16,16 +17,12 @@ joined [] = []
 joined (text ∷ []) = text
 joined (text ∷ next ∷ texts) = text ++ codes ", " ++ joined (next ∷ texts)
 
--- a quote within a text stands twice
-abbrev pub doubled_quote : ℕ → Text
-doubled_quote byte = if byte == 39 then 39 ∷ 39 ∷ [] else byte ∷ []
-
 abbrev pub value_text : Value → Text
 value_text Null = codes "null"
 value_text (Truth true) = codes "true"
 value_text (Truth false) = codes "false"
 value_text (Int n) = signed_decimal n
-value_text (Characters text) = codes "'" ++ flat_map doubled_quote text ++ codes "'"
+value_text (Characters text) = quoted 39 text
 
 abbrev pub row_text : Row → Text
 row_text row = codes "(" ++ joined (map value_text row) ++ codes ")"

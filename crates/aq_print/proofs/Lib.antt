@@ -1,0 +1,3 @@
+pub mod NameTests
+pub mod Printing
+pub mod Stepping
