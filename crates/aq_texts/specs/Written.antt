@@ -90,8 +90,21 @@ joins_last Sign = false
 joins_last Call = true
 joins_last Repeat = true
 
+-- a minus sign
+abbrev pub is_minus : Written → Bool
+is_minus (Said text) = false
+is_minus (Heading directive) = false
+is_minus (Name name) = false
+is_minus (Number number) = false
+is_minus (Literal text) = false
+is_minus (Mark symbol) = same_text (symbol_text symbol) (codes "-")
+is_minus Sign = true
+is_minus Call = false
+is_minus Repeat = false
+
+-- Two signs that join would begin a comment. No expression is printed with two of them in a row.
 abbrev pub blank_between : Written → Written → Text
-blank_between first second = if joins_next first || joins_last second then [] else 32 ∷ []
+blank_between first second = if (joins_next first && not (is_minus second)) || joins_last second then [] else 32 ∷ []
 
 -- what stands behind a token
 abbrev pub text_behind : Written → List Written → Text

@@ -1,0 +1,4 @@
+pub mod Sound
+pub mod Laid
+pub mod Derived
+pub mod Free
