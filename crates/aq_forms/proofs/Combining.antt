@@ -1,5 +1,5 @@
 -- How the parts of a rule are put together: printed tokens that spell a tree freely.
-use Rattle.std.proofs.Common.{◌≡◌, ℕ, Bool, true, false, List, [], ◌∷◌, ◌++◌, map, Option, Some, None, inl, inr, refl, sym, ap, ◌∙◌, subst, flat_map, codes}
+use Rattle.std.proofs.Common.{◌≡◌, ℕ, suc, true, List, [], ◌∷◌, ◌++◌, map, Option, Some, None, inl, inr, refl, sym, ap, subst, flat_map}
 use Rattle.std.proofs.lemmas.List.{append-nil}
 use Rattle.std.specs.Char.{to_ascii_lowercase}
 use Rattle.aq_base.specs.Names.{Text as Bytes, same_text}
@@ -14,7 +14,7 @@ use Rattle.aq_grammar.specs.Changes.{end_without}
 use Rattle.aq_texts.specs.Written.{Written, Said, Mark, Sign, Call, separated, listed as listed_tokens, in_parentheses as in_parentheses_tokens}
 use Rattle.aq_forms.proofs.Sound.{is_folded_word, IsSound}
 use Rattle.aq_forms.proofs.Laid.{lexeme_of, laid, past, laid_append}
-use Rattle.aq_forms.proofs.Free.{IsLimit, Free}
+use Rattle.aq_forms.proofs.Free.{IsLimit, FreeEach, Free}
 
 -- the printed tokens spell the tree freely, on any lines, where such tokens come behind
 abbrev pub IsFree : {A : Type 0} → Rule A → A → List Written → (List PlacedLexeme → Type 0) → Type 0
@@ -166,18 +166,80 @@ pub weaker : {A : Type 0} (a : Rule A) (x : A) (ws : List Written) (First Behind
     → IsFree a x ws First → IsFree a x ws Behind
 weaker a x ws First Behind less first lines at rest behind = first lines at rest (less rest behind)
 
--- each of them is printed freely
-abbrev pub AreFree : {A : Type 0} → Rule A → (A → List Written) → List A → Type 0
-AreFree a print [] = Unit {0}
-AreFree a print (x ∷ others) = IsFree a x (print x) Anything × AreFree a print others
+-- each of them is printed freely, where such tokens come behind it
+abbrev pub AreFree : {A : Type 0} → Rule A → (A → List Written) → (List PlacedLexeme → Type 0) → List A → Type 0
+AreFree a print First [] = Unit {0}
+AreFree a print First (x ∷ others) = IsFree a x (print x) First × AreFree a print First others
 
-each_free : {A : Type 0} (a : Rule A) (print : A → List Written) (xs : List A) → AreFree a print xs → (lines : ℕ → ℕ) (at : ℕ) (rest : List PlacedLexeme)
-    → Free (Many [] [] (λ (found : List A). found) a) xs (laid lines at (flat_map print xs)) rest
-each_free a print [] all lines at rest = ([], (refl, refl), refl)
+each_free :
+    {A : Type 0} (a : Rule A) (print : A → List Written) (xs : List A) → AreFree a print Anything xs → (lines : ℕ → ℕ) (at : ℕ) (rest : List PlacedLexeme)
+    → FreeEach [] (Free a) xs (laid lines at (flat_map print xs)) rest
+each_free a print [] all lines at rest = (refl, refl)
 each_free a print (x ∷ others) all lines at rest =
-    let tail = each_free a print others all.1 lines (past at (print x)) rest in
-    (x ∷ others,
     (laid lines at (print x), laid lines (past at (print x)) (flat_map print others), refl,
-    all.0 lines at (laid lines (past at (print x)) (flat_map print others) ++ rest) tt,
-    subst (λ (found : List _). Rattle.aq_forms.proofs.Free.FreeEach [] (Free a) found (laid lines (past at (print x)) (flat_map print others)) rest) (sym tail.2) tail.1,
-    laid_append lines at (print x) (flat_map print others)), refl)
+    all.0 lines at (laid lines (past at (print x)) (flat_map print others) ++ rest) tt, each_free a print others all.1 lines (past at (print x)) rest,
+    laid_append lines at (print x) (flat_map print others))
+
+-- any number of them, behind each of which anything may come
+pub many_free :
+    {A B : Type 0} (kinds : List Terminal) (f : List A → B) (a : Rule A) (print : A → List Written) (xs : List A) (Behind : List PlacedLexeme → Type 0)
+    → AreFree a print Anything xs → IsFree (Many kinds [] f a) (f xs) (flat_map print xs) Behind
+many_free kinds f a print xs Behind all lines at rest behind = (xs, each_free a print xs all lines at rest, refl)
+
+-- ---- with commas between them
+
+abbrev pub with_comma : {A : Type 0} → (A → List Written) → A → List Written
+with_comma print x = Mark Comma ∷ print x
+
+pub listed_is : {A : Type 0} (print : A → List Written) (x : A) (others : List A) → listed_tokens print (x ∷ others) ≡ print x ++ flat_map (with_comma print) others
+listed_is print x [] = sym (append-nil (print x))
+listed_is print x (next ∷ others) = ap (λ (tokens : List Written). print x ++ Mark Comma ∷ tokens) (listed_is print next others)
+
+-- a comma may come behind each of them
+abbrev pub ComesBeforeComma : (List PlacedLexeme → Type 0) → Type 0
+ComesBeforeComma First = (line : ℕ) (rest : List PlacedLexeme) → First (record { line = line; lexeme = Symbol Comma } ∷ rest)
+
+commas_follow :
+    {A : Type 0} (print : A → List Written) (others : List A) (First Behind : List PlacedLexeme → Type 0) → ComesBeforeComma First
+    → ((rest : List PlacedLexeme) → Behind rest → First rest) → MayFollow (flat_map (with_comma print) others) Behind First
+commas_follow print [] First Behind comma less lines at rest behind = less rest behind
+commas_follow print (x ∷ others) First Behind comma less lines at rest behind = comma (lines at) (laid lines (suc at) (print x ++ flat_map (with_comma print) others) ++ rest)
+
+others_free :
+    {A : Type 0} (a : Rule A) (print : A → List Written) (others : List A) (First Behind : List PlacedLexeme → Type 0) → ComesBeforeComma First
+    → ((rest : List PlacedLexeme) → Behind rest → First rest) → AreFree a print First others → (lines : ℕ → ℕ) (at : ℕ) (rest : List PlacedLexeme) → Behind rest
+    → FreeEach [] (Free (sign Comma ▸ a)) others (laid lines at (flat_map (with_comma print) others)) rest
+others_free a print [] First Behind comma less all lines at rest behind = (refl, refl)
+others_free a print (x ∷ others) First Behind comma less all lines at rest behind =
+    let after = past at (with_comma print x) in
+    (laid lines at (with_comma print x), laid lines after (flat_map (with_comma print) others), refl,
+    behind_mark Comma a x (print x) First all.0 lines at (laid lines after (flat_map (with_comma print) others) ++ rest)
+    (commas_follow print others First Behind comma less lines after rest behind),
+    others_free a print others First Behind comma less all.1 lines after rest behind, laid_append lines at (with_comma print x) (flat_map (with_comma print) others))
+
+pub listed_free :
+    {A : Type 0} (a : Rule A) (print : A → List Written) (x : A) (others : List A) (First Behind : List PlacedLexeme → Type 0) → ComesBeforeComma First
+    → ((rest : List PlacedLexeme) → Behind rest → First rest) → IsFree a x (print x) First → AreFree a print First others
+    → IsFree (listed a) (x ∷ others) (listed_tokens print (x ∷ others)) Behind
+listed_free a print x others First Behind comma less first all =
+    subst (λ (tokens : List Written). IsFree (listed a) (x ∷ others) tokens Behind) (sym (listed_is print x others))
+    (both_free (λ x others. x ∷ others) a (Many (Mark_kind Comma ∷ []) [] (λ others. others) (sign Comma ▸ a)) x others (print x) (flat_map (with_comma print) others) First Behind first
+    (λ lines at rest behind. (others, others_free a print others First Behind comma less all lines at rest behind, refl)) (commas_follow print others First Behind comma less))
+
+pub listed_any :
+    {A : Type 0} (a : Rule A) (print : A → List Written) (x : A) (others : List A) (Behind : List PlacedLexeme → Type 0) → IsFree a x (print x) Anything
+    → AreFree a print Anything others → IsFree (listed a) (x ∷ others) (listed_tokens print (x ∷ others)) Behind
+listed_any a print x others Behind first all = listed_free a print x others Anything Behind (λ line rest. tt) (λ rest behind. tt) first all
+
+-- in parentheses, before the second of which anything that is asked for may stand
+pub parentheses_free :
+    {A : Type 0} (a : Rule A) (x : A) (ws : List Written) (First Behind : List PlacedLexeme → Type 0)
+    → ((line : ℕ) (rest : List PlacedLexeme) → First (record { line = line; lexeme = Symbol CloseParen } ∷ rest)) → IsFree a x ws First
+    → IsFree (in_parentheses a) x (in_parentheses_tokens ws) Behind
+parentheses_free a x ws First Behind close first =
+    behind_mark OpenParen (a ◂ sign CloseParen) x (ws ++ Mark CloseParen ∷ []) Behind
+    (before_free a (sign CloseParen) x tt ws (Mark CloseParen ∷ []) First Behind first (mark_free CloseParen Behind) (λ lines at rest behind. close (lines at) rest))
+
+pub parentheses_any : {A : Type 0} (a : Rule A) (x : A) (ws : List Written) (Behind : List PlacedLexeme → Type 0) → IsFree a x ws Anything
+    → IsFree (in_parentheses a) x (in_parentheses_tokens ws) Behind
+parentheses_any a x ws Behind first = parentheses_free a x ws Anything Behind (λ line rest. tt) first

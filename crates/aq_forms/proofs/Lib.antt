@@ -2,3 +2,4 @@ pub mod Sound
 pub mod Laid
 pub mod Derived
 pub mod Free
+pub mod Combining

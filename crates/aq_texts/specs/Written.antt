@@ -104,7 +104,7 @@ is_minus Repeat = false
 
 -- Two signs that join would begin a comment. No expression is printed with two of them in a row.
 abbrev pub blank_between : Written → Written → Text
-blank_between first second = if (joins_next first && not (is_minus second)) || joins_last second then [] else 32 ∷ []
+blank_between first second = if (joins_next first && not (is_minus first && is_minus second)) || joins_last second then [] else 32 ∷ []
 
 -- what stands behind a token
 abbrev pub text_behind : Written → List Written → Text
