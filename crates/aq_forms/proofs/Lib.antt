@@ -3,3 +3,4 @@ pub mod Laid
 pub mod Derived
 pub mod Free
 pub mod Combining
+pub mod Names
