@@ -23,6 +23,10 @@ IsFree r x tokens Behind = (lines : ℕ → ℕ) (at : ℕ) (rest : List PlacedL
 abbrev pub Anything : List PlacedLexeme → Type 0
 Anything rest = Unit {0}
 
+-- a `;`, as behind each statement
+abbrev pub Semicolon_next : List PlacedLexeme → Type 0
+Semicolon_next rest = (line : ℕ) × (others : List PlacedLexeme) × (rest ≡ record { line = line; lexeme = Symbol Semicolon } ∷ others)
+
 -- none of the refused words
 abbrev pub Nothing_refused : List Refusal → List PlacedLexeme → Type 0
 Nothing_refused refusals rest = refused refusals rest ≡ None

@@ -4,7 +4,6 @@ use Rattle.aq_base.specs.Names.{Text as Bytes}
 use Rattle.aq_lex.specs.Lexemes.{PlacedLexeme}
 use Rattle.aq_grammar.specs.Terminals.{Terminal, NameBut, fits, text_of}
 use Rattle.aq_grammar.specs.Rules.{Nonterminal, ValueOf, Rule, Done, Token, Both, Either, Many, Differing, Call, Unless, Limited}
-use Rattle.aq_grammar.specs.Calls.{Rules}
 use Rattle.aq_grammar.specs.Nonterminals.{rules}
 use Rattle.aq_forms.proofs.Sound.{IsSound}
 
@@ -47,6 +46,10 @@ abbrev pub DerivesWithin : ℕ → (n : Nonterminal) → Trees (ValueOf n)
 DerivesWithin zero n x = ⊥
 DerivesWithin (suc most) n x = DerivesBy (DerivesWithin most) (rules n) x
 
--- the same of any rule
-abbrev pub Derives : ℕ → {A : Type 0} → Rule A → Trees A
-Derives most rule y = DerivesBy (DerivesWithin most) rule y
+-- with any number of them
+abbrev pub DerivesSome : (n : Nonterminal) → Trees (ValueOf n)
+DerivesSome n x = (most : ℕ) × DerivesWithin most n x
+
+-- the tree is one of the rule
+abbrev pub Derives : {A : Type 0} → Rule A → Trees A
+Derives rule y = DerivesBy DerivesSome rule y

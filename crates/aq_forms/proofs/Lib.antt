@@ -4,3 +4,6 @@ pub mod Derived
 pub mod Free
 pub mod Combining
 pub mod Names
+pub mod Reading
+pub mod Deriving
+pub mod Expressions

@@ -7,13 +7,13 @@ use Rattle.aq_lex.specs.Tokens.{is_word}
 use Rattle.aq_base.specs.Names.{Text as Bytes, same_text, is_short, is_reserved}
 use Rattle.aq_lex.specs.Lexemes.{PlacedLexeme, Lexeme, Word, QuotedName, Integer, Text, Symbol, Directive}
 use Rattle.aq_grammar.specs.Terminals.{Terminal, Name as Name_kind, NameOf, NameBut, PlainName, fits, name_is, is_name_word, is_plain_name, text_of, lexeme_text}
-use Rattle.aq_grammar.specs.Rules.{Token, Both}
+use Rattle.aq_grammar.specs.Rules.{Nonterminal, ValueOf, Token, Both}
 use Rattle.aq_grammar.specs.Forms.{name, public_name, optional, sign, ◌▸◌, last_name}
 use Rattle.aq_grammar.proofs.Apart.{same_text_is}
 use Rattle.aq_texts.specs.Written.{Written, Name, is_bare}
 use Rattle.aq_forms.proofs.Sound.{is_folded_word, IsSound}
 use Rattle.aq_forms.proofs.Laid.{lexeme_of}
-use Rattle.aq_forms.proofs.Derived.{DerivesToken, Derives}
+use Rattle.aq_forms.proofs.Derived.{Trees, DerivesBy}
 use Rattle.aq_forms.proofs.Combining.{IsFree, Anything, token_free, both_any, left_free, right_free, none_free}
 use Rattle.aq_lex.specs.declared.token.Symbol.TheVariants.{Dot}
 use Rattle.aq_grammar.specs.Terminals.{Sign}
@@ -88,9 +88,9 @@ derived_name test token fit sound = named_by test token.lexeme fit sound
 
 -- ---- names without a prefix
 
-pub name_named : (most : ℕ) (text : Bytes) → Derives most name text → IsNamed text
+pub name_named : (calls : (n : Nonterminal) → Trees (ValueOf n)) (text : Bytes) → DerivesBy calls name text → IsNamed text
 unfolding name
-name_named most text (token, fit, sound, e) = subst IsNamed (sym e) (derived_name (λ text. true) token fit sound).0
+name_named calls text (token, fit, sound, e) = subst IsNamed (sym e) (derived_name (λ text. true) token fit sound).0
 
 pub name_free : (text : Bytes) (Behind : List PlacedLexeme → Type 0) → IsNamed text → IsFree name text (Name text ∷ []) Behind
 unfolding name
@@ -117,13 +117,13 @@ plain_named token fit sound = by_lexeme token.lexeme fit sound
 public : Bytes
 public = codes "public"
 
-pub public_named : (most : ℕ) (text : Bytes) → Derives most public_name text → IsNamed text
+pub public_named : (calls : (n : Nonterminal) → Trees (ValueOf n)) (text : Bytes) → DerivesBy calls public_name text → IsNamed text
 unfolding public_name name
-public_named most text (inl (first, second, (token, fit, sound, e), (inl (other, said, (dot, found, d, (name_token, name_fit, name_is_sound, c), b), u, a)), whole)) =
+public_named calls text (inl (first, second, (token, fit, sound, e), (inl (other, said, (dot, found, d, (name_token, name_fit, name_is_sound, c), b), u, a)), whole)) =
     subst IsNamed (sym (whole ∙ ap (λ (x : Option Bytes). last_name first x) (a ∙ ap Some (b ∙ c)))) (derived_name (λ text. true) name_token name_fit name_is_sound).0
-public_named most text (inl (first, second, (token, fit, sound, e), (inr none), whole)) =
+public_named calls text (inl (first, second, (token, fit, sound, e), (inr none), whole)) =
     subst IsNamed (sym (whole ∙ ap (λ (x : Option Bytes). last_name first x) none ∙ e)) (derived_name (λ text. same_text text (codes "public")) token fit sound).0
-public_named most text (inr (token, fit, sound, e)) = subst IsNamed (sym e) (derived_name (λ text. not (same_text text (codes "public"))) token fit sound).0
+public_named calls text (inr (token, fit, sound, e)) = subst IsNamed (sym e) (derived_name (λ text. not (same_text text (codes "public"))) token fit sound).0
 
 pub public_free : (text : Bytes) (Behind : List PlacedLexeme → Type 0) → IsNamed text → IsFree public_name text (Name text ∷ []) Behind
 unfolding public_name
