@@ -5,5 +5,6 @@ pub mod Free
 pub mod Combining
 pub mod Names
 pub mod Reading
+pub mod Headings
 pub mod Deriving
 pub mod Expressions
