@@ -4,6 +4,7 @@ pub mod Derived
 pub mod Free
 pub mod Combining
 pub mod Names
+pub mod ReadingParts
 pub mod Reading
 pub mod Headings
 pub mod Deriving
