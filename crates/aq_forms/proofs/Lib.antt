@@ -5,6 +5,9 @@ pub mod Free
 pub mod Combining
 pub mod Names
 pub mod ReadingParts
+pub mod ReadingMany
+pub mod ReadingOther
+pub mod ReadingLimited
 pub mod Reading
 pub mod Headings
 pub mod Deriving

@@ -34,8 +34,15 @@ starts_by Freely Spelled bars a spells keeps =
       empty = λ x rest free. empty_since keeps x (spells x [] rest free);
     }
 
+-- where it isn't empty, tokens begin with one of the marks that begin with it
+pub first_of :
+    {A : Type 0} (Freely : FreeForm A) (a : Marks) → Starts Freely a → a.is_empty ≡ false → (x : A) (u front behind last : List PlacedLexeme) → Freely x front last
+    → u ≡ front ++ behind → (token : PlacedLexeme) × (more : List PlacedLexeme) × (u ≡ token ∷ more) × (is_of a.begins token ≡ true)
+first_of Freely a starts whole x u [] behind last free cut = absurd (both_ways a.is_empty whole (starts.empty x last free))
+first_of Freely a starts whole x u (token ∷ front) behind last free cut = (token, front ++ behind, cut, starts.begun x token front last free)
+
 -- none of fewer kinds begins either
-fewer : (kinds more : List Terminal) (tokens : List PlacedLexeme) → (begins kinds tokens ≡ true → begins more tokens ≡ true) → begins more tokens ≡ false
+pub fewer : (kinds more : List Terminal) (tokens : List PlacedLexeme) → (begins kinds tokens ≡ true → begins more tokens ≡ true) → begins more tokens ≡ false
     → begins kinds tokens ≡ false
 fewer kinds more tokens part none = false_from_ne_true (begins kinds tokens) (λ e. both_ways (begins more tokens) none (part e))
 
@@ -77,7 +84,7 @@ module _ {B : Type 0} (Freely : FreeForm B) (a b : Marks) (starts : Starts Freel
   behind_both rest none = fewer b.goes_on (of_both a b).goes_on rest (λ e. begins_behind _ b.goes_on rest e) none
 
 module _ {A B C : Type 0} (f : A → B → C) (First : FreeForm A) (Second : A → FreeForm B) (reader : Reader A) (second : A → Reader B) (a b : Marks) where
-  both_at :
+  pub both_at :
       (y : C) (u rest front behind : List PlacedLexeme) (x : A) (z : B) → u ≡ front ++ behind → y ≡ f x z
       → ReadsOrLimit (reader (front ++ (behind ++ rest))) x (behind ++ rest) → ReadsOrLimit (second x (behind ++ rest)) z rest
       → ReadsOrLimit (read_both f reader second (u ++ rest)) y rest
