@@ -1,5 +1,5 @@
 -- What sound tokens spell by a rule is one of its trees.
-use Rattle.std.proofs.Common.{◌≡◌, ℕ, zero, suc, Bool, true, false, ◌&&◌, ◌^◌, nat_lt, List, [], ◌∷◌, ◌++◌, Option, Some, None, inl, inr, subst, refl}
+use Rattle.std.proofs.Common.{◌≡◌, ℕ, zero, suc, true, ◌^◌, nat_lt, List, [], ◌∷◌, ◌++◌, Some, inl, inr, subst, refl}
 use Rattle.std.proofs.lemmas.Bool.{and_parts}
 use Rattle.aq_base.specs.Names.{Text as Bytes}
 use Rattle.aq_lex.specs.declared.token.Directive.{Directive as DirectiveName}
@@ -36,7 +36,7 @@ texts_behind : (u v : List PlacedLexeme) → HaveTexts (u ++ v) → HaveTexts v
 texts_behind [] v texts = texts
 texts_behind (token ∷ u) v (text, texts) = texts_behind u v texts
 
--- the trees of a form with such tokens
+-- what tokens with texts spell in the form is one of these trees
 abbrev Has : {A : Type 0} → Form A → Trees A → Type 0
 Has {A} Spelled Derived = (x : A) (u : List PlacedLexeme) → Spelled x u → HaveTexts u → Derived x
 

@@ -1,5 +1,5 @@
 -- A rule whose tokens are free is read as its tree, unless a limit is passed.
-use Rattle.std.proofs.Common.{◌≡◌, ℕ, true, false, List, [], ◌∷◌, ◌++◌, Option, Some, None, inl, inr, refl, sym, subst}
+use Rattle.std.proofs.Common.{◌≡◌, ℕ, true, false, List, [], ◌∷◌, ◌++◌, inl, inr, refl, sym, subst}
 use Rattle.aq_base.specs.Names.{Text as Bytes}
 use Rattle.aq_base.specs.declared.fault.SqlFault.{SqlFault}
 use Rattle.aq_lex.specs.Lexemes.{PlacedLexeme}
@@ -21,19 +21,19 @@ use Rattle.aq_forms.proofs.Sound.{AreSound}
 use Rattle.aq_forms.proofs.Laid.{laid}
 use Rattle.aq_forms.proofs.Free.{IsLimit, ReadsOrLimit, FreeForm, FreeToken, FreeEach, FreeOther, FreeCalled, Free}
 use Rattle.aq_forms.proofs.Combining.{IsFree}
-use Rattle.aq_forms.proofs.ReadingParts.{Keeps, IsRead, Starts, starts_by, fewer, made, nothing_read, token_read, both_read, either_read, unless_read}
+use Rattle.aq_forms.proofs.ReadingParts.{IsSpelledBy, IsReadFreely, Starts, starts_by, fewer, made, nothing_read, token_read, both_read, either_read, unless_read}
 use Rattle.aq_forms.proofs.ReadingMany.{many_read}
 use Rattle.aq_forms.proofs.ReadingOther.{other_read}
 use Rattle.aq_forms.proofs.ReadingLimited.{right_reads}
 
 -- ---- What is spelled freely is spelled.
 
-each_spells : {A : Type 0} (refusals : List Refusal) (Freely : FreeForm A) (Spelled : Form A) → Keeps Freely Spelled → Keeps (FreeEach refusals Freely) (SpellsEach Spelled)
+each_spells : {A : Type 0} (refusals : List Refusal) (Freely : FreeForm A) (Spelled : Form A) → IsSpelledBy Freely Spelled → IsSpelledBy (FreeEach refusals Freely) (SpellsEach Spelled)
 each_spells refusals Freely Spelled spells [] u rest (none, quiet) = none
 each_spells refusals Freely Spelled spells (x ∷ others) u rest (front, behind, quiet, one, more, cut) =
     (front, behind, spells x front (behind ++ rest) one, each_spells refusals Freely Spelled spells others behind rest more, cut)
 
-other_spells : {B : Type 0} (Freely : FreeForm B) (Spelled : Form B) (name : Bytes) → Keeps Freely Spelled → Keeps (FreeOther Freely name) (SpellsOther Spelled name)
+other_spells : {B : Type 0} (Freely : FreeForm B) (Spelled : Form B) (name : Bytes) → IsSpelledBy Freely Spelled → IsSpelledBy (FreeOther Freely name) (SpellsOther Spelled name)
 other_spells Freely Spelled name spells y u rest (inl none) = inl none
 other_spells Freely Spelled name spells y u rest (inr (front, behind, b, text, one, (token, fit, sound, e, d), cut, is)) =
     inr (front, behind, b, text, spells b front (behind ++ rest) one, (token, fit, e, d), cut, is)
@@ -122,7 +122,7 @@ limited_bars most limit fault a front place fit plain is (inr bar) = absurd ((ru
 
 limited_reads :
     {A : Type 0} (most : ℕ) (limit : SqlFault) (a : Rule A) → is_fit_by marks (Limited most limit a) ≡ true
-    → IsRead (Free (Limited most limit a)) (reads (Limited most limit a)) (marks_by marks (Limited most limit a))
+    → IsReadFreely (Free (Limited most limit a)) (reads (Limited most limit a)) (marks_by marks (Limited most limit a))
 limited_reads most limit a fit x u rest none (is, free) =
     let (first, plain, some) = fit_limited marks most limit a fit in
     elim (right_reads (Spells (Limited most limit a)) (Bars (Limited most limit a)) (marks_by marks (Limited most limit a)) (rule_keeps (Limited most limit a) fit) x u rest
@@ -131,7 +131,7 @@ limited_reads most limit a fit x u rest none (is, free) =
       | inr stop ↦ inr (stop.0, stop.2, stop.3, limited_bars most limit stop.0 a stop.1 stop.2 first plain is stop.4)
     ]
 
-reads_by : {A : Type 0} (r : Rule A) → is_fit_by marks r ≡ true → IsRead (Free r) (reads r) (marks_by marks r)
+reads_by : {A : Type 0} (r : Rule A) → is_fit_by marks r ≡ true → IsReadFreely (Free r) (reads r) (marks_by marks r)
 reads_by (Done x) fit y u rest none (is, cut) = nothing_read x y u rest is cut
 reads_by (Token kind f) fit y u rest none free = token_read kind f (marks_by marks (Token kind f)) y u rest none free
 reads_by (Both f a b) fit y u rest none free =

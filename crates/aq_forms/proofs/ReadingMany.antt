@@ -1,22 +1,22 @@
 -- How any number of one form are read, whose tokens are free.
-use Rattle.std.proofs.Common.{◌≡◌, ℕ, zero, suc, ◌≤◌, true, false, List, [], ◌∷◌, ◌++◌, length, Some, None, inl, refl, sym, ap, ◌∙◌, subst, if◌then◌else◌, arith, length-append}
+use Rattle.std.proofs.Common.{◌≡◌, ℕ, zero, suc, ◌≤◌, true, false, List, [], ◌∷◌, ◌++◌, length, None, inl, refl, sym, ap, ◌∙◌, subst, if◌then◌else◌, arith, length-append}
 use Rattle.std.proofs.lemmas.Bool.{both_ways, false_from_ne_true, cond-true, cond-false}
 use Rattle.aq_lex.specs.Lexemes.{PlacedLexeme}
 use Rattle.aq_grammar.specs.Terminals.{Terminal, is_of, begins}
 use Rattle.aq_grammar.specs.Rules.{Refusal, refused}
-use Rattle.aq_grammar.specs.Reading.{Outcome, Read, Reader, read_both, read_each, read_many}
+use Rattle.aq_grammar.specs.Reading.{Read, Reader, read_both, read_each, read_many}
 use Rattle.aq_grammar.specs.Sets.{Marks, of_many, same_kinds, heads}
 use Rattle.aq_grammar.proofs.Cuts.{rest_shorter}
 use Rattle.aq_grammar.proofs.Apart.{are_apart_sound, same_kinds_begin, is_of_front, begins_front, begins_behind}
 use Rattle.aq_grammar.proofs.Keeping.{AreRepeated}
 use Rattle.aq_forms.proofs.Free.{ReadsOrLimit, FreeForm, FreeEach, FreeMany}
-use Rattle.aq_forms.proofs.ReadingParts.{IsRead, Starts, first_of, fewer, made, both_at, unless_read}
+use Rattle.aq_forms.proofs.ReadingParts.{IsReadFreely, Starts, first_of, fewer, made, both_at, unless_read}
 
 abbrev together : {A : Type 0} → A → List A → List A
 together x others = x ∷ others
 
 module _ {A : Type 0} (kinds : List Terminal) (refusals : List Refusal) (Freely : FreeForm A) (reader : Reader A) (a : Marks) (starts : Starts Freely a)
-    (fit : AreRepeated refusals a) (same : same_kinds kinds a.begins ≡ true) (read : IsRead Freely reader a) where
+    (fit : AreRepeated refusals a) (same : same_kinds kinds a.begins ≡ true) (read : IsReadFreely Freely reader a) where
   -- one of them and then others
   abbrev one_and_more : ℕ → Reader (List A)
   one_and_more most tokens = read_both together reader (λ x. read_each most kinds refusals reader) tokens
@@ -60,7 +60,7 @@ module _ {A : Type 0} (kinds : List Terminal) (refusals : List Refusal) (Freely 
       (both_at together Freely (λ x. FreeEach refusals Freely) reader (λ x. read_each most kinds refusals reader) a a (x ∷ others) u rest front behind x others cut refl
       (read x front (behind ++ rest) (behind_one others behind rest none more) one) (each_read others most behind rest (omega arith) none more)))
 
-  pub many_read : {B : Type 0} (f : List A → B) → IsRead (FreeMany refusals f Freely) (λ tokens. read_many kinds refusals f reader tokens) (of_many refusals a)
+  pub many_read : {B : Type 0} (f : List A → B) → IsReadFreely (FreeMany refusals f Freely) (λ tokens. read_many kinds refusals f reader tokens) (of_many refusals a)
   many_read f y u rest none (xs, free, is) =
       made f (read_each (length (u ++ rest)) kinds refusals reader (u ++ rest)) xs y rest is
       (each_read xs (length (u ++ rest)) u rest (omega (arith, length-append u rest)) none free)

@@ -1,18 +1,18 @@
 -- How a name is read that differs from another, behind what introduces it, where the tokens are free.
-use Rattle.std.proofs.Common.{◌≡◌, true, false, List, [], ◌∷◌, ◌++◌, Option, Some, None, inl, inr, refl, sym, ap, ◌∙◌, subst}
+use Rattle.std.proofs.Common.{◌≡◌, true, false, List, [], ◌++◌, Option, Some, None, inl, inr, sym, ap, ◌∙◌, subst}
 use Rattle.std.proofs.lemmas.Bool.{false_from_ne_true, cond-true, cond-false, or_left}
 use Rattle.aq_base.specs.Names.{Text as Bytes}
 use Rattle.aq_lex.specs.Lexemes.{PlacedLexeme}
 use Rattle.aq_grammar.specs.Terminals.{Terminal, Name, NameBut, fits, is_of, begins, text_of}
-use Rattle.aq_grammar.specs.Reading.{Outcome, Read, Reader, read_token, read_both, read_other}
+use Rattle.aq_grammar.specs.Reading.{Read, Reader, read_token, read_both, read_other}
 use Rattle.aq_grammar.specs.Sets.{Marks, of_token, of_both, of_other, same_kinds}
 use Rattle.aq_grammar.proofs.Apart.{are_apart_sound, same_kinds_begin, begins_front}
 use Rattle.aq_grammar.proofs.Keeping.{other_is_name, IsIntroduction}
 use Rattle.aq_forms.proofs.Free.{ReadsOrLimit, FreeForm, FreeToken, FreeOther}
-use Rattle.aq_forms.proofs.ReadingParts.{IsRead, Starts, first_of, fewer, both_at, token_read}
+use Rattle.aq_forms.proofs.ReadingParts.{IsReadFreely, Starts, first_of, fewer, both_at, token_read}
 
 module _ {B : Type 0} (kinds : List Terminal) (name : Bytes) (Freely : FreeForm B) (reader : Reader B) (b : Marks) (starts : Starts Freely b) (introduction : IsIntroduction b)
-    (same : same_kinds kinds b.begins ≡ true) (read : IsRead Freely reader b) where
+    (same : same_kinds kinds b.begins ≡ true) (read : IsReadFreely Freely reader b) where
   abbrev introduced : Reader (Option Bytes)
   introduced tokens = read_both (λ b text. Some text) reader (λ b. read_token (NameBut name) text_of) tokens
 
@@ -31,7 +31,7 @@ module _ {B : Type 0} (kinds : List Terminal) (name : Bytes) (Freely : FreeForm 
       (λ e.
       are_apart_sound b.goes_on ((of_token Name).begins ++ (of_token Name).opens) token introduction.fit e (or_left (fits Name token) false (other_is_name name token fit)))
 
-  pub other_read : IsRead (FreeOther Freely name) (λ tokens. read_other kinds reader name tokens) (of_other b)
+  pub other_read : IsReadFreely (FreeOther Freely name) (λ tokens. read_other kinds reader name tokens) (of_other b)
   other_read y u rest none (inl (is, cut)) =
       inl (ap (λ v. read_other kinds reader name (v ++ rest)) cut ∙ cond-false (begins kinds rest) (introduced rest) (Read None rest) (no_name rest none)
       ∙ ap (λ z. Read z rest) (sym is))

@@ -1,25 +1,23 @@
 -- How the parts of a rule are read whose tokens are free. This is said of any form, whatever its rule.
-use Rattle.std.proofs.Common.{◌≡◌, ℕ, zero, suc, ◌≤◌, Bool, true, false, cond, List, [], ◌∷◌, ◌++◌, length, Option, Some, None, ◌⊎◌, inl, inr, refl, sym, ap, ◌∙◌, subst, if◌then◌else◌, arith, length-append, append_assoc}
-use Rattle.std.proofs.lemmas.Bool.{both_ways, false_from_ne_true, cond-true, cond-false, or_left}
-use Rattle.aq_base.specs.Names.{Text as Bytes}
-use Rattle.aq_base.specs.declared.fault.SqlFault.{SqlFault}
+use Rattle.std.proofs.Common.{◌≡◌, true, false, List, [], ◌∷◌, ◌++◌, None, ◌⊎◌, inl, inr, sym, ap, ◌∙◌, subst, append_assoc}
+use Rattle.std.proofs.lemmas.Bool.{both_ways, false_from_ne_true, cond-true, cond-false}
 use Rattle.aq_lex.specs.Lexemes.{PlacedLexeme}
-use Rattle.aq_grammar.specs.Terminals.{Terminal, Name, NameBut, fits, is_of, begins, text_of}
+use Rattle.aq_grammar.specs.Terminals.{Terminal, fits, is_of, begins}
 use Rattle.aq_grammar.specs.Rules.{Refusal, Form, Bar, refused}
-use Rattle.aq_grammar.specs.Reading.{Outcome, Read, Stop, Refused, Reader, ◌>>=◌, read_token, read_both, read_either, stop_or, read_unless, read_each, read_many, read_other, read_called}
-use Rattle.aq_grammar.specs.Sets.{Marks, of_token, of_both, of_either, of_many, of_other, are_apart, both_fit, same_kinds}
+use Rattle.aq_grammar.specs.Reading.{Outcome, Read, Reader, ◌>>=◌, read_token, read_both, read_either, stop_or, read_unless}
+use Rattle.aq_grammar.specs.Sets.{Marks, of_both, of_either, both_fit, same_kinds}
 use Rattle.aq_grammar.proofs.Languages.{KeepsMarks}
 use Rattle.aq_grammar.proofs.Apart.{are_apart_sound, same_kinds_begin, is_of_front, begins_front, begins_behind}
-use Rattle.aq_grammar.proofs.Keeping.{begun_by, empty_since, begins_if, other_is_name, AreDistinct, AreRepeated, IsIntroduction}
-use Rattle.aq_forms.proofs.Free.{IsLimit, ReadsOrLimit, FreeForm, FreeToken, FreeBoth, FreeEach, FreeMany, FreeOther}
+use Rattle.aq_grammar.proofs.Keeping.{begun_by, empty_since, begins_if, AreDistinct}
+use Rattle.aq_forms.proofs.Free.{ReadsOrLimit, FreeForm, FreeToken, FreeBoth}
 
 -- whatever is spelled freely has this form
-abbrev pub Keeps : {A : Type 0} → FreeForm A → Form A → Type 0
-Keeps {A} Freely Spelled = (x : A) (u rest : List PlacedLexeme) → Freely x u rest → Spelled x u
+abbrev pub IsSpelledBy : {A : Type 0} → FreeForm A → Form A → Type 0
+IsSpelledBy {A} Freely Spelled = (x : A) (u rest : List PlacedLexeme) → Freely x u rest → Spelled x u
 
 -- what is spelled freely is read, where no token comes that goes on with it
-abbrev pub IsRead : {A : Type 0} → FreeForm A → Reader A → Marks → Type 0
-IsRead {A} Freely reader a =
+abbrev pub IsReadFreely : {A : Type 0} → FreeForm A → Reader A → Marks → Type 0
+IsReadFreely {A} Freely reader a =
     (x : A) (u rest : List PlacedLexeme) → begins a.goes_on rest ≡ false → Freely x u rest → ReadsOrLimit (reader (u ++ rest)) x rest
 
 -- its first token is one of the marks
@@ -27,7 +25,7 @@ pub record Starts {A : Type 0} (Freely : FreeForm A) (a : Marks) : Type 0 where
   pub begun : (x : A) (token : PlacedLexeme) (u rest : List PlacedLexeme) → Freely x (token ∷ u) rest → is_of a.begins token ≡ true
   pub empty : (x : A) (rest : List PlacedLexeme) → Freely x [] rest → a.is_empty ≡ true
 
-pub starts_by : {A : Type 0} (Freely : FreeForm A) (Spelled : Form A) (bars : Bar) (a : Marks) → Keeps Freely Spelled → KeepsMarks Spelled bars a → Starts Freely a
+pub starts_by : {A : Type 0} (Freely : FreeForm A) (Spelled : Form A) (bars : Bar) (a : Marks) → IsSpelledBy Freely Spelled → KeepsMarks Spelled bars a → Starts Freely a
 starts_by Freely Spelled bars a spells keeps =
     record {
       begun = λ x token u rest free. begun_by keeps x token u (spells x (token ∷ u) rest free);
@@ -62,7 +60,7 @@ made f outcome x y rest is read = then_read outcome (λ x rest. Read (f x) rest)
 pub nothing_read : {A : Type 0} (x y : A) (u rest : List PlacedLexeme) → y ≡ x → u ≡ [] → ReadsOrLimit (Read x (u ++ rest)) y rest
 nothing_read x y u rest is none = inl (ap (λ z. Read z (u ++ rest)) (sym is) ∙ ap (λ v. Read y (v ++ rest)) none)
 
-pub token_read : {A : Type 0} (kind : Terminal) (f : PlacedLexeme → A) (a : Marks) → IsRead (FreeToken kind f) (λ tokens. read_token kind f tokens) a
+pub token_read : {A : Type 0} (kind : Terminal) (f : PlacedLexeme → A) (a : Marks) → IsReadFreely (FreeToken kind f) (λ tokens. read_token kind f tokens) a
 token_read kind f a y u rest none (token, fit, sound, is, cut) =
     inl (ap (λ v. read_token kind f (v ++ rest)) cut ∙ cond-true (fits kind token) _ _ fit ∙ ap (λ z. Read z rest) (sym is))
 
@@ -93,8 +91,8 @@ module _ {A B C : Type 0} (f : A → B → C) (First : FreeForm A) (Second : A �
       (then_read (reader (front ++ (behind ++ rest))) (λ a rest. second a rest >>= λ b last. Read (f a b) last) x (behind ++ rest) y rest one
       (made (f x) (second x (behind ++ rest)) z y rest is other))
 
-  pub both_read : both_fit a b ≡ true → ((x : A) → Starts (Second x) b) → IsRead First reader a → ((x : A) → IsRead (Second x) (second x) b)
-      → IsRead (FreeBoth f First Second) (λ tokens. read_both f reader second tokens) (of_both a b)
+  pub both_read : both_fit a b ≡ true → ((x : A) → Starts (Second x) b) → IsReadFreely First reader a → ((x : A) → IsReadFreely (Second x) (second x) b)
+      → IsReadFreely (FreeBoth f First Second) (λ tokens. read_both f reader second tokens) (of_both a b)
   both_read fit starts one other y u rest none (front, behind, x, z, h, k, cut, is) =
       both_at y u rest front behind x z cut is
       (one x front (behind ++ rest) (behind_first (Second x) a b (starts x) z behind rest fit none k) h)
@@ -122,7 +120,7 @@ module _ {A : Type 0} (kinds : List Terminal) (a b : Marks) (fit : AreDistinct a
       same_kinds_begin kinds a.begins (token ∷ u ++ rest) same
       ∙ false_from_ne_true (is_of a.begins token) (λ e. are_apart_sound a.begins b.begins token fit.apart e (starts.begun x token u rest free))
 
-  module _ (First Second : FreeForm A) (reader other : Reader A) (starts : Starts First a) (follows : Starts Second b) (one : IsRead First reader a) (two : IsRead Second other b) where
+  module _ (First Second : FreeForm A) (reader other : Reader A) (starts : Starts First a) (follows : Starts Second b) (one : IsReadFreely First reader a) (two : IsReadFreely Second other b) where
     pub either_read : (x : A) (u rest : List PlacedLexeme) → begins (of_either a b).goes_on rest ≡ false → First x u rest ⊎ Second x u rest
         → ReadsOrLimit (read_either kinds reader other (u ++ rest)) x rest
     either_read x u rest none (inl free) =
