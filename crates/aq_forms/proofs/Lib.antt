@@ -4,6 +4,11 @@ pub mod Derived
 pub mod Free
 pub mod Combining
 pub mod Names
+pub mod ReadingParts
+pub mod ReadingMany
+pub mod ReadingOther
+pub mod ReadingLimited
 pub mod Reading
+pub mod Headings
 pub mod Deriving
 pub mod Expressions
