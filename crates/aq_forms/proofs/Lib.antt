@@ -7,3 +7,4 @@ pub mod Names
 pub mod Reading
 pub mod Deriving
 pub mod Expressions
+pub mod Texts
