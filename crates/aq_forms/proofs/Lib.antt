@@ -8,3 +8,4 @@ pub mod Reading
 pub mod Deriving
 pub mod Expressions
 pub mod Texts
+pub mod PrintedTokens
