@@ -9,3 +9,4 @@ pub mod Deriving
 pub mod Expressions
 pub mod Texts
 pub mod PrintedTokens
+pub mod PrintedLines

@@ -60,7 +60,7 @@ word_unfolded (byte ∷ bytes) h =
     let p = and_parts (begins_word (to_ascii_lowercase byte)) (list_all goes_on_in_word (map to_ascii_lowercase bytes)) h in
     and_from (begins_word byte) (list_all goes_on_in_word bytes) (unfolded_begins byte p.0) (all_unfolded bytes p.1)
 
-said_is_word : (text : Bytes) → IsSound (Word (map to_ascii_lowercase text)) → is_word text ≡ true
+pub said_is_word : (text : Bytes) → IsSound (Word (map to_ascii_lowercase text)) → is_word text ≡ true
 said_is_word text sound =
     let folded : Bytes = map to_ascii_lowercase text in
     word_unfolded text (and_parts (is_word folded) (same_text (map to_ascii_lowercase folded) folded) sound).0
@@ -68,7 +68,7 @@ said_is_word text sound =
 -- ---- numbers
 
 -- digits, and the number that they write
-abbrev AreDigitsOf : ℕ → List ℕ → Type 0
+abbrev pub AreDigitsOf : ℕ → List ℕ → Type 0
 AreDigitsOf number digits = (are_digits digits ≡ true) × (number_of digits ≡ number)
 
 one_digit : (number : ℕ) → number < 10 → AreDigitsOf number ((48 + number) ∷ [])
@@ -94,7 +94,7 @@ one_digit_more number digits large so_far =
 pub decimal_digits : (number : ℕ) → number < 2 ^ 64 → AreDigitsOf number (decimal number)
 decimal_digits number small = decimal_by_steps AreDigitsOf one_digit one_digit_more number small
 
-sound_digits : (number : ℕ) → IsSound (Integer number) → AreDigitsOf number (decimal number)
+pub sound_digits : (number : ℕ) → IsSound (Integer number) → AreDigitsOf number (decimal number)
 sound_digits number sound = let h : number < 2 ^ 63 = ltb-true number (2 ^ 63) sound in decimal_digits number (omega arith)
 
 -- ---- symbols
