@@ -10,3 +10,4 @@ pub mod Expressions
 pub mod Texts
 pub mod PrintedTokens
 pub mod PrintedLines
+pub mod PrintedWorked

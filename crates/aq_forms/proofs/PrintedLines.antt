@@ -1,18 +1,18 @@
 -- Printed lines are lexed as the tokens that they were printed with.
-use Rattle.std.proofs.Common.{◌≡◌, ℕ, suc, ◌+◌, ◌-◌, Bool, true, false, not, ◌&&◌, ◌||◌, eqb, List, [], ◌∷◌, ◌++◌, length, take, drop, get_or, map, refl, sym, ap, subst, ◌∙◌, arith, cond, inl, inr, append_assoc}
+use Rattle.std.proofs.Common.{◌≡◌, ℕ, suc, ◌+◌, ◌-◌, Bool, true, false, not, ◌&&◌, ◌||◌, eqb, List, [], ◌∷◌, ◌++◌, length, drop, get_or, map, refl, sym, ap, subst, ◌∙◌, arith, cond, inl, inr, append_assoc}
 use Rattle.std.specs.List.{list_all, flat_map}
-use Rattle.std.specs.Char.{is_ascii_digit, to_ascii_lowercase}
+use Rattle.std.specs.Char.{is_ascii_digit}
 use Rattle.std.proofs.lemmas.Bool.{and_parts, or_from, or_right, not_from_false, not-true, or_cases, cond_both}
 use Rattle.std.proofs.lemmas.Bool.Decides.{nat_tests}
 use Rattle.std.proofs.lemmas.List.{map-append, append-nil, take_at, drop_at}
 use Rattle.aq_base.specs.Names.{Text as Bytes}
 use Rattle.aq_lex.specs.declared.token.Symbol.{Symbol as SymbolName}
-use Rattle.aq_lex.specs.declared.token.Symbol.TheVariants.{OpenParen, CloseParen, Comma, Semicolon, Dot, Plus, Minus, Times, Equal, Unequal, Less, AtMost, Greater, AtLeast, DollarQuote}
+use Rattle.aq_lex.specs.declared.token.Symbol.TheVariants.{OpenParen, CloseParen, Comma, Semicolon, Dot, Minus, Less, Greater}
 use Rattle.aq_lex.specs.declared.token.Directive.{Directive as DirectiveName}
 use Rattle.aq_lex.specs.declared.token.TokenKind.{TokenKind}
 use Rattle.aq_lex.specs.declared.token.Token.{Token}
-use Rattle.aq_lex.specs.Tokens.{is_blank, begins_word, goes_on_in_word, begins_otherwise, is_word, are_digits, quoted, goes_on_in_symbol, SpellsToken, Place, beginning, LexesTo, Starts, BehindBlank, BehindToken, Lexes, token_at, behind_blank, behind_token}
-use Rattle.aq_lex.specs.Lexemes.{PlacedLexeme, Lexeme, Word, QuotedName, Integer, Text, kind_of, token_bytes, line_at, lexeme, lexemes, lexeme_of as value_of}
+use Rattle.aq_lex.specs.Tokens.{is_blank, begins_word, goes_on_in_word, begins_otherwise, is_word, are_digits, quoted, goes_on_in_symbol, Place, beginning, LexesTo, Starts, BehindBlank, BehindToken, Lexes, token_at, behind_blank, behind_token}
+use Rattle.aq_lex.specs.Lexemes.{PlacedLexeme, Lexeme, Word, QuotedName, kind_of, token_bytes, lexeme, lexemes, lexeme_of as value_of}
 use Rattle.aq_lex.proofs.Once.{Before, before}
 use Rattle.aq_texts.specs.Written.{Written, Said, Heading, Name, Number, Literal, Mark, Sign, Call, Repeat, is_bare, token_text, joins_next, joins_last, is_minus, blank_between, text_behind, written}
 use Rattle.aq_texts.specs.Canon.{line}
@@ -21,6 +21,10 @@ use Rattle.aq_forms.proofs.Laid.{lexeme_of, laid}
 use Rattle.aq_forms.proofs.PrintedTokens.{goes_on, Spells, spells, heading_spells, said_is_word, sound_digits}
 
 -- ---- bytes that go on with no token
+
+-- an LF, a space, or one of `(`, `)`, `*`, `,`, `.` and `;`
+abbrev is_stop : ℕ → Bool
+is_stop byte = eqb byte 10 || eqb byte 32 || eqb byte 40 || eqb byte 41 || eqb byte 42 || eqb byte 44 || eqb byte 46 || eqb byte 59
 
 record Stops (byte : ℕ) : Type 0 where
   word : goes_on_in_word byte ≡ false
@@ -31,11 +35,19 @@ record Stops (byte : ℕ) : Type 0 where
   equal : eqb byte 61 ≡ false
   greater : eqb byte 62 ≡ false
 
-abbrev blank_stops : Stops 32
-blank_stops = record { word = refl; digit = refl; quote = refl; apostrophe = refl; minus = refl; equal = refl; greater = refl }
+stop_word : (byte : ℕ) → is_stop byte ≡ true → goes_on_in_word byte ≡ false
+stop_word byte h = grind (arith, nat_tests)
 
-abbrev line_stops : Stops 10
-line_stops = record { word = refl; digit = refl; quote = refl; apostrophe = refl; minus = refl; equal = refl; greater = refl }
+stops : (byte : ℕ) → is_stop byte ≡ true → Stops byte
+stops byte h = record {
+  word = stop_word byte h;
+  digit = grind (arith, nat_tests);
+  quote = grind (arith, nat_tests);
+  apostrophe = grind (arith, nat_tests);
+  minus = grind (arith, nat_tests);
+  equal = grind (arith, nat_tests);
+  greater = grind (arith, nat_tests);
+}
 
 symbol_stops : (symbol : SymbolName) (byte : ℕ) → Stops byte → goes_on_in_symbol symbol byte ≡ false
 symbol_stops Minus byte stops = stops.minus
@@ -55,22 +67,22 @@ stops_all Call byte stops = refl
 stops_all Repeat byte stops = refl
 
 -- what begins with such a byte stops all tokens
-stopped : (token : Written) (byte : ℕ) (behind : Bytes) → Stops byte → begins_otherwise (goes_on token) (byte ∷ behind) ≡ true
-stopped token byte behind stops = not_from_false (goes_on token byte) (stops_all token byte stops)
+stopped : (token : Written) (byte : ℕ) (behind : Bytes) → is_stop byte ≡ true → begins_otherwise (goes_on token) (byte ∷ behind) ≡ true
+stopped token byte behind h = not_from_false (goes_on token byte) (stops_all token byte (stops byte h))
 
 -- ---- tokens with no blank between them
 
 -- a token that joins the last one begins with a byte that goes on with none
 joined_last : (token next : Written) (behind : Bytes) → joins_last next ≡ true → begins_otherwise (goes_on token) (token_text next ++ behind) ≡ true
-joined_last token Call behind joins = stopped token 40 behind (record { word = refl; digit = refl; quote = refl; apostrophe = refl; minus = refl; equal = refl; greater = refl })
-joined_last token Repeat behind joins = stopped token 42 behind (record { word = refl; digit = refl; quote = refl; apostrophe = refl; minus = refl; equal = refl; greater = refl })
-joined_last token (Mark CloseParen) behind joins = stopped token 41 behind (record { word = refl; digit = refl; quote = refl; apostrophe = refl; minus = refl; equal = refl; greater = refl })
-joined_last token (Mark Comma) behind joins = stopped token 44 behind (record { word = refl; digit = refl; quote = refl; apostrophe = refl; minus = refl; equal = refl; greater = refl })
-joined_last token (Mark Semicolon) behind joins = stopped token 59 behind (record { word = refl; digit = refl; quote = refl; apostrophe = refl; minus = refl; equal = refl; greater = refl })
-joined_last token (Mark Dot) behind joins = stopped token 46 behind (record { word = refl; digit = refl; quote = refl; apostrophe = refl; minus = refl; equal = refl; greater = refl })
+joined_last token Call behind joins = stopped token 40 behind refl
+joined_last token Repeat behind joins = stopped token 42 behind refl
+joined_last token (Mark CloseParen) behind joins = stopped token 41 behind refl
+joined_last token (Mark Comma) behind joins = stopped token 44 behind refl
+joined_last token (Mark Semicolon) behind joins = stopped token 59 behind refl
+joined_last token (Mark Dot) behind joins = stopped token 46 behind refl
 joined_last token next behind joins = cc
 
--- no byte goes on with what stands behind nothing
+-- where no byte goes on with a token, none behind it does
 never : (bytes : Bytes) → begins_otherwise (λ byte. false) bytes ≡ true
 never [] = refl
 never (byte ∷ bytes) = refl
@@ -118,29 +130,38 @@ joined_next token next behind sound joins = cc
 
 -- ---- what stands behind a token of a line
 
-abbrev AllSound : List Written → Type 0
+-- the tokens can be printed within a statement, on whichever lines
+abbrev pub AllSound : List Written → Type 0
 AllSound [] = Unit {0}
 AllSound (token ∷ tokens) = IsSound (lexeme_of token) × AllSound tokens
 
-all_sound : (lines : ℕ → ℕ) (at : ℕ) (tokens : List Written) → AreSound (laid lines at tokens) → AllSound tokens
+pub all_sound : (lines : ℕ → ℕ) (at : ℕ) (tokens : List Written) → AreSound (laid lines at tokens) → AllSound tokens
 all_sound lines at [] sound = tt
 all_sound lines at (token ∷ tokens) sound = (sound.0, all_sound lines (suc at) tokens sound.1)
 
+pub are_sound : (lines : ℕ → ℕ) (at : ℕ) (tokens : List Written) → AllSound tokens → AreSound (laid lines at tokens)
+are_sound lines at [] sound = tt
+are_sound lines at (token ∷ tokens) sound = (sound.0, are_sound lines (suc at) tokens sound.1)
+
+pub all_sound_append : (a b : List Written) → AllSound a → AllSound b → AllSound (a ++ b)
+all_sound_append [] b first second = second
+all_sound_append (token ∷ a) b first second = (first.0, all_sound_append a b first.1 second)
+
 -- no byte behind a token goes on with it
 ends : (token : Written) (tokens : List Written) (rest : Bytes) → AllSound tokens → begins_otherwise (goes_on token) (text_behind token tokens ++ 10 ∷ rest) ≡ true
-ends token [] rest sound = stopped token 10 rest line_stops
+ends token [] rest sound = stopped token 10 rest refl
 ends token (next ∷ tokens) rest sound =
     cond_both ((joins_next token && not (is_minus token && is_minus next)) || joins_last next) [] (32 ∷ [])
     (λ (blank : Bytes). begins_otherwise (goes_on token) ((blank ++ (token_text next ++ text_behind next tokens)) ++ 10 ∷ rest) ≡ true)
     (λ joins.
-        let behind : Bytes = text_behind next tokens ++ 10 ∷ rest in
-        let at_once : begins_otherwise (goes_on token) (token_text next ++ behind) ≡ true =
-        elim (or_cases (joins_next token && not (is_minus token && is_minus next)) (joins_last next) joins) [
-          | inl e ↦ joined_next token next behind sound.0 e
-          | inr e ↦ joined_last token next behind e
-        ] in
-        subst (λ (x : Bytes). begins_otherwise (goes_on token) x ≡ true) (sym (append_assoc (token_text next) (text_behind next tokens) (10 ∷ rest))) at_once)
-    (λ parted. stopped token 32 ((token_text next ++ text_behind next tokens) ++ 10 ∷ rest) blank_stops)
+    let behind : Bytes = text_behind next tokens ++ 10 ∷ rest in
+    let at_once : begins_otherwise (goes_on token) (token_text next ++ behind) ≡ true =
+    elim (or_cases (joins_next token && not (is_minus token && is_minus next)) (joins_last next) joins) [
+      | inl e ↦ joined_next token next behind sound.0 e
+      | inr e ↦ joined_last token next behind e
+    ] in
+    subst (λ (x : Bytes). begins_otherwise (goes_on token) x ≡ true) (sym (append_assoc (token_text next) (text_behind next tokens) (10 ∷ rest))) at_once)
+    (λ parted. stopped token 32 ((token_text next ++ text_behind next tokens) ++ 10 ∷ rest) refl)
 
 -- ---- tokens, one behind the other
 
@@ -208,7 +229,7 @@ record AtLine (bytes : Bytes) (done : List Written) (behind : Bytes) : Type 0 wh
   so_far : SoFar bytes done behind
   is_first : so_far.place.is_first ≡ true
 
--- a line of tokens of a statement, perhaps behind a heading
+-- a line of tokens that can be printed within a statement, perhaps behind a heading
 pub data IsLine : List Written → Type 0 where
   Plain : (tokens : List Written) → AreSound (laid (λ n. 0) 0 tokens) → IsLine tokens
   Headed : (directive : DirectiveName) (tokens : List Written) → AreSound (laid (λ n. 0) 0 tokens) → IsLine (Heading directive ∷ tokens)
@@ -288,6 +309,9 @@ lines_lex lines all =
 -- a printed line by itself is lexed as its tokens
 pub line_lexes : (tokens : List Written) → IsLine tokens → (found : List Token) × (place : ℕ → ℕ) × Lexes (line tokens) found × (lexemes (line tokens) found ≡ laid place 0 tokens)
 line_lexes tokens is =
-    let alone = lines_lex (tokens ∷ []) (is, tt) in
-    (alone.0, alone.1, subst (λ (x : Bytes). Lexes x alone.0) (append-nil (line tokens)) alone.2,
-    ap (λ (x : Bytes). lexemes x alone.0) (sym (append-nil (line tokens))) ∙ alone.3 ∙ ap (λ (x : List Written). laid alone.1 0 x) (append-nil tokens))
+    let alone = lines_lex (tokens ∷ []) (is, tt) in (
+      alone.0,
+      alone.1,
+      subst (λ (x : Bytes). Lexes x alone.0) (append-nil (line tokens)) alone.2,
+      ap (λ (x : Bytes). lexemes x alone.0) (sym (append-nil (line tokens))) ∙ alone.3 ∙ ap (λ (x : List Written). laid alone.1 0 x) (append-nil tokens),
+    )

@@ -1,23 +1,22 @@
 -- The bytes of a printed token spell it, in front of what goes on with no such token.
-use Rattle.std.proofs.Common.{◌≡◌, ◌≢◌, ℕ, suc, ◌+◌, ◌-◌, ◌*◌, ◌/◌, ◌%◌, ◌^◌, ◌<◌, ◌≤◌, Bool, true, false, not, ◌&&◌, ◌||◌, eqb, List, [], ◌∷◌, ◌++◌, map, refl, sym, ap, subst, ◌∙◌, arith, cond, inl, nat_lt, decimal}
-use Rattle.std.specs.List.{list_all, fold}
+use Rattle.std.proofs.Common.{◌≡◌, ◌≢◌, ℕ, ◌+◌, ◌-◌, ◌*◌, ◌/◌, ◌%◌, ◌^◌, ◌<◌, ◌≤◌, Bool, true, false, ◌||◌, eqb, List, [], ◌∷◌, ◌++◌, map, refl, ap, ◌∙◌, arith, cond, inl, decimal}
+use Rattle.std.specs.List.{list_all}
 use Rattle.std.specs.Str.{IsUtf8}
 use Rattle.std.specs.Char.{to_ascii_lowercase, is_ascii_digit}
-use Rattle.std.proofs.lemmas.Bool.{and_parts, and_from, or_parts, or_from, ltb-true, not_from_false, not-true}
+use Rattle.std.proofs.lemmas.Bool.{and_parts, and_from, or_parts, ltb-true, not_from_false, not-true}
 use Rattle.std.proofs.lemmas.Bool.Decides.{nat_tests}
 use Rattle.std.proofs.lemmas.List.Sums.{fold-append}
 use Rattle.std.proofs.lemmas.List.Folds.{list_all-append}
 use Rattle.std.proofs.lemmas.Fmt.{decimal_by_steps}
-use Rattle.aq_base.specs.Names.{Text as Bytes, same_text, is_reserved}
+use Rattle.aq_base.specs.Names.{Text as Bytes, same_text}
 use Rattle.aq_lex.specs.declared.token.Symbol.{Symbol as SymbolName}
 use Rattle.aq_lex.specs.declared.token.Symbol.TheVariants.{OpenParen, CloseParen, Comma, Semicolon, Dot, Plus, Minus, Times, Equal, Unequal, Less, AtMost, Greater, AtLeast, DollarQuote}
 use Rattle.aq_lex.specs.declared.token.Directive.{Directive as DirectiveName}
-use Rattle.aq_lex.specs.declared.token.TokenKind.{TokenKind}
 use Rattle.aq_lex.specs.declared.token.TokenKind.TheVariants as kinds
 use Rattle.aq_lex.specs.Tokens.{begins_word, goes_on_in_word, begins_otherwise, is_word, are_digits, quoted, SpellsSymbol, goes_on_in_symbol, SpellsToken}
-use Rattle.aq_lex.specs.Lexemes.{Lexeme, Word, QuotedName, Integer, Text, Symbol, Directive, number_of, kind_of, unquoted, lexeme_of as value_of}
+use Rattle.aq_lex.specs.Lexemes.{Lexeme, Word, QuotedName, Integer, Text, number_of, kind_of, lexeme_of as value_of}
 use Rattle.aq_lex.proofs.Values.{unquoted_quoted}
-use Rattle.aq_texts.specs.Written.{Written, Said, Heading, Name, Number, Literal, Mark, Sign, Call, Repeat, is_bare, name_text, symbol_text, token_text}
+use Rattle.aq_texts.specs.Written.{Written, Said, Heading, Name, Number, Literal, Mark, Sign, Call, Repeat, is_bare, symbol_text, token_text}
 use Rattle.aq_grammar.proofs.Apart.{same_text_is}
 use Rattle.aq_forms.proofs.Sound.{is_folded_word, IsSound}
 use Rattle.aq_forms.proofs.Laid.{lexeme_of}
