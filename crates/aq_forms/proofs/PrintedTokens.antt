@@ -12,7 +12,6 @@ use Rattle.aq_base.specs.Names.{Text as Bytes, same_text}
 use Rattle.aq_lex.specs.declared.token.Symbol.{Symbol as SymbolName}
 use Rattle.aq_lex.specs.declared.token.Symbol.TheVariants.{OpenParen, CloseParen, Comma, Semicolon, Dot, Plus, Minus, Times, Equal, Unequal, Less, AtMost, Greater, AtLeast, DollarQuote}
 use Rattle.aq_lex.specs.declared.token.Directive.{Directive as DirectiveName}
-use Rattle.aq_lex.specs.declared.token.TokenKind.TheVariants as kinds
 use Rattle.aq_lex.specs.Tokens.{begins_word, goes_on_in_word, begins_otherwise, is_word, are_digits, quoted, SpellsSymbol, goes_on_in_symbol, SpellsToken}
 use Rattle.aq_lex.specs.Lexemes.{Lexeme, Word, QuotedName, Integer, Text, number_of, kind_of, lexeme_of as value_of}
 use Rattle.aq_lex.proofs.Values.{unquoted_quoted}
