@@ -12,3 +12,7 @@ pub mod Reading
 pub mod Headings
 pub mod Deriving
 pub mod Expressions
+pub mod Texts
+pub mod PrintedTokens
+pub mod PrintedLines
+pub mod PrintedWorked
