@@ -6,4 +6,5 @@ pub mod Combining
 pub mod Names
 pub mod Reading
 pub mod Deriving
+pub mod ExpressionLevels
 pub mod Expressions
