@@ -7,4 +7,5 @@ pub mod Names
 pub mod Reading
 pub mod Deriving
 pub mod ExpressionLevels
+pub mod ExpressionForms
 pub mod Expressions
