@@ -8,4 +8,5 @@ pub mod Reading
 pub mod Deriving
 pub mod ExpressionLevels
 pub mod ExpressionForms
+pub mod ExpressionAtoms
 pub mod Expressions
