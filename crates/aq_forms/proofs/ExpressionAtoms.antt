@@ -1,26 +1,25 @@
 -- An atom without parentheses that was read is printed as tokens that spell it freely.
-use Rattle.std.proofs.Common.{◌≡◌, ℕ, ◌^◌, Bool, true, false, not, List, [], ◌∷◌, map, Option, Some, None, inl, inr, ◌⊎◌, refl, sym, ap, ◌∙◌, subst, codes}
+use Rattle.std.proofs.Common.{◌≡◌, ◌^◌, Bool, true, false, not, List, [], ◌∷◌, map, Option, Some, None, inl, inr, ◌⊎◌, refl, sym, ap, ◌∙◌, subst, codes}
 use Rattle.std.specs.Prelude.{pos, nat_lt, IsUtf8}
 use Rattle.std.specs.Char.{to_ascii_lowercase}
-
 use Rattle.aq_base.specs.Names.{Text as Bytes, same_text}
 use Rattle.aq_base.specs.declared.value.Value.TheVariants.{Null, Bool as Truth, Int, Text as Words}
 use Rattle.aq_base.specs.declared.expr.Expr.{Expr}
 use Rattle.aq_base.specs.declared.expr.Expr.TheVariants.{Constant, Column, Qualified, Old, New, Operation}
-use Rattle.aq_lex.specs.Lexemes.{PlacedLexeme, Lexeme, Word, QuotedName, Integer, Text, Symbol, Directive}
+use Rattle.aq_lex.specs.Lexemes.{Lexeme, Word, QuotedName, Integer, Text, Symbol, Directive}
 use Rattle.aq_lex.specs.declared.token.Symbol.TheVariants.{Dot}
 use Rattle.aq_grammar.specs.declared.scope.Scope.{Scope}
 use Rattle.aq_grammar.specs.declared.scope.Scope.TheVariants.{InStatement, InCondition, InCode}
 use Rattle.aq_grammar.specs.Terminals.{Terminal, Keyword, NameOf, NameBut, Number as Number_kind, Sign as Mark_kind, fits, is_of_kind, is_literal, is_literal_in_code, number_is, text_is, text_of, number_of, lexeme_text, lexeme_number}
 use Rattle.aq_grammar.specs.Rules.{Nonterminal, ValueOf, Rule, Token, Both, Either}
-use Rattle.aq_grammar.specs.Forms.{word, sign, says, ◌▸◌, mapped, name, optional}
+use Rattle.aq_grammar.specs.Forms.{word, sign, says, ◌▸◌, mapped, name}
 use Rattle.aq_grammar.specs.Expressions.{literal_in, column_or_qualified, column_of_public, behind_dot, behind_public, column, operation_or_column, old_column, new_column, column_of_row_or, named, word_or_named, plain_atom}
 use Rattle.aq_texts.specs.Written.{Written, Said, say, Name, Number, Literal, Mark}
-use Rattle.aq_texts.specs.Canon.{Operand, printed, atom as an_atom}
+use Rattle.aq_texts.specs.Canon.{printed, atom as an_atom}
 use Rattle.aq_texts.proofs.Expressions.{constant_is, column_is, qualified_is, old_is, new_is, operation_is}
 use Rattle.aq_forms.proofs.Sound.{is_folded_word, IsSound}
 use Rattle.aq_forms.proofs.Derived.{Trees, DerivesBy}
-use Rattle.aq_forms.proofs.Combining.{IsFree, Anything, token_free, says_free, both_any, behind_word, behind_mark, mapped_free, left_free, right_free, some_free, none_free}
+use Rattle.aq_forms.proofs.Combining.{Anything, token_free, says_free, both_any, behind_word, behind_mark, mapped_free, left_free, right_free, some_free, none_free}
 use Rattle.aq_forms.proofs.Names.{IsNamed, name_fits, name_sound, name_text_is, derived_name, name_named, name_free}
 use Rattle.aq_forms.proofs.ExpressionLevels.{IsPrinted}
 
@@ -187,20 +186,24 @@ module _ (calls : (n : Nonterminal) → Trees (ValueOf n)) where
   old_atom : (e : Expr) → DerivesBy calls old_column e → IsAtomBy old_column e
   unfolding old_column
   old_atom e (before, behind, old, (between, found, dot, (text, end, derived, none, a), b), c) =
-      subst (IsAtomBy old_column) (sym (c ∙ b ∙ a))
-      (say (codes "OLD") ∷ Mark Dot ∷ Name text ∷ [], old_is text,
-      behind_word (codes "OLD") (codes "old") (sign Dot ▸ mapped Old name) (Old text) (Mark Dot ∷ Name text ∷ []) Anything refl refl
-      (behind_mark Dot (mapped Old name) (Old text) (Name text ∷ []) Anything
-      (mapped_free Old name text (Name text ∷ []) Anything (name_free text Anything (name_named calls text derived)))))
+      subst (IsAtomBy old_column) (sym (c ∙ b ∙ a)) (
+        say (codes "OLD") ∷ Mark Dot ∷ Name text ∷ [],
+        old_is text,
+        behind_word (codes "OLD") (codes "old") (sign Dot ▸ mapped Old name) (Old text) (Mark Dot ∷ Name text ∷ []) Anything refl refl
+            (behind_mark Dot (mapped Old name) (Old text) (Name text ∷ []) Anything
+            (mapped_free Old name text (Name text ∷ []) Anything (name_free text Anything (name_named calls text derived)))),
+      )
 
   new_atom : (e : Expr) → DerivesBy calls new_column e → IsAtomBy new_column e
   unfolding new_column
   new_atom e (before, behind, new, (between, found, dot, (text, end, derived, none, a), b), c) =
-      subst (IsAtomBy new_column) (sym (c ∙ b ∙ a))
-      (say (codes "NEW") ∷ Mark Dot ∷ Name text ∷ [], new_is text,
-      behind_word (codes "NEW") (codes "new") (sign Dot ▸ mapped New name) (New text) (Mark Dot ∷ Name text ∷ []) Anything refl refl
-      (behind_mark Dot (mapped New name) (New text) (Name text ∷ []) Anything
-      (mapped_free New name text (Name text ∷ []) Anything (name_free text Anything (name_named calls text derived)))))
+      subst (IsAtomBy new_column) (sym (c ∙ b ∙ a)) (
+        say (codes "NEW") ∷ Mark Dot ∷ Name text ∷ [],
+        new_is text,
+        behind_word (codes "NEW") (codes "new") (sign Dot ▸ mapped New name) (New text) (Mark Dot ∷ Name text ∷ []) Anything refl refl
+            (behind_mark Dot (mapped New name) (New text) (Name text ∷ []) Anything
+            (mapped_free New name text (Name text ∷ []) Anything (name_free text Anything (name_named calls text derived)))),
+      )
 
   row_atom : (others : Rule Expr) (e : Expr) → (DerivesBy calls others e → IsAtomBy others e) → DerivesBy calls (column_of_row_or others) e
       → IsAtomBy (column_of_row_or others) e
@@ -226,24 +229,29 @@ module _ (calls : (n : Nonterminal) → Trees (ValueOf n)) where
     where
       from_false : Rule Expr
       from_false = Either (Keyword (codes "false") ∷ []) (says (codes "false") (Constant (Truth false))) (named scope)
+
       from_true : Rule Expr
       from_true = Either (Keyword (codes "true") ∷ []) (says (codes "true") (Constant (Truth true))) from_false
 
   number_atom : (e : Expr) → DerivesBy calls (Token Number_kind (λ token. Constant (Int (pos (number_of token))))) e
       → IsAtomBy (Token Number_kind (λ token. Constant (Int (pos (number_of token))))) e
   number_atom e (token, fit, sound, is) =
-      subst (IsAtomBy (Token Number_kind (λ token. Constant (Int (pos (number_of token)))))) (sym is)
-      (Number (number_of token) ∷ [], constant_is (Int (pos (number_of token))),
-      token_free Number_kind (λ token. Constant (Int (pos (number_of token)))) (Number (number_of token)) (Constant (Int (pos (number_of token)))) Anything
-      (λ line. number_fits token.lexeme fit) (number_fits token.lexeme fit) (λ line. refl))
+      subst (IsAtomBy (Token Number_kind (λ token. Constant (Int (pos (number_of token)))))) (sym is) (
+        Number (number_of token) ∷ [],
+        constant_is (Int (pos (number_of token))),
+        token_free Number_kind (λ token. Constant (Int (pos (number_of token)))) (Number (number_of token)) (Constant (Int (pos (number_of token)))) Anything
+            (λ line. number_fits token.lexeme fit) (number_fits token.lexeme fit) (λ line. refl),
+      )
 
   text_atom : (scope : Scope) (e : Expr) → DerivesBy calls (Token (literal_in scope) (λ token. Constant (Words (text_of token)))) e
       → IsAtomBy (Token (literal_in scope) (λ token. Constant (Words (text_of token)))) e
   text_atom scope e (token, fit, sound, is) =
-      subst (IsAtomBy (Token (literal_in scope) (λ token. Constant (Words (text_of token))))) (sym is)
-      (Literal (text_of token) ∷ [], constant_is (Words (text_of token)),
-      token_free (literal_in scope) (λ token. Constant (Words (text_of token))) (Literal (text_of token)) (Constant (Words (text_of token))) Anything
-      (λ line. (literal_fits scope token.lexeme fit sound).0) (literal_fits scope token.lexeme fit sound).1 (λ line. refl))
+      subst (IsAtomBy (Token (literal_in scope) (λ token. Constant (Words (text_of token))))) (sym is) (
+        Literal (text_of token) ∷ [],
+        constant_is (Words (text_of token)),
+        token_free (literal_in scope) (λ token. Constant (Words (text_of token))) (Literal (text_of token)) (Constant (Words (text_of token))) Anything
+            (λ line. (literal_fits scope token.lexeme fit sound).0) (literal_fits scope token.lexeme fit sound).1 (λ line. refl),
+      )
 
   pub plain_atom_is : (scope : Scope) (e : Expr) → DerivesBy calls (plain_atom scope) e → IsAtomBy (plain_atom scope) e
   unfolding plain_atom

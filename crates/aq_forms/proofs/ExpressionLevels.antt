@@ -1,8 +1,7 @@
 -- What a level of the rules of expressions has printed freely, each weaker level has too.
-use Rattle.std.proofs.Common.{List, [], ◌∷◌, ◌++◌, Option, Some, None, subst, codes}
+use Rattle.std.proofs.Common.{List, [], ◌∷◌, ◌++◌, None, subst, codes}
 use Rattle.std.proofs.lemmas.List.{append-nil}
 use Rattle.aq_base.specs.declared.expr.Expr.{Expr}
-use Rattle.aq_base.specs.declared.expr.Comparison.{Comparison}
 use Rattle.aq_base.specs.declared.expr.Expr.TheVariants.{Negate, Multiply, Not, And, Or}
 use Rattle.aq_lex.specs.declared.token.Symbol.TheVariants.{Plus, Minus, Times}
 use Rattle.aq_grammar.specs.declared.scope.Scope.{Scope}
