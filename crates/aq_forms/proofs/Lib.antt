@@ -11,6 +11,9 @@ pub mod ReadingLimited
 pub mod Reading
 pub mod Headings
 pub mod Deriving
+pub mod ExpressionLevels
+pub mod ExpressionForms
+pub mod ExpressionAtoms
 pub mod Expressions
 pub mod Texts
 pub mod PrintedTokens
