@@ -1,7 +1,7 @@
 -- INSERT, UPDATE, DELETE, SELECT and SET CONSTRAINTS are printed freely.
-use Rattle.std.proofs.Common.{◌≡◌, ℕ, true, List, [], ◌∷◌, ◌++◌, map, Option, Some, None, codes, refl, sym, ap, subst}
+use Rattle.std.proofs.Common.{◌≡◌, List, [], ◌∷◌, ◌++◌, Option, Some, None, codes, refl}
 use Rattle.aq_base.specs.Names.{Text as Bytes}
-use Rattle.aq_lex.specs.declared.token.Symbol.TheVariants.{OpenParen, Comma, Times, Equal}
+use Rattle.aq_lex.specs.declared.token.Symbol.TheVariants.{OpenParen, Times, Equal}
 use Rattle.aq_lex.specs.Lexemes.{PlacedLexeme}
 use Rattle.aq_grammar.specs.Terminals.{Keyword, Sign as Mark_kind}
 use Rattle.aq_grammar.specs.Rules.{Rule, Both, Either, Unless}
@@ -16,19 +16,16 @@ use Rattle.aq_base.specs.declared.data.Insert.{Insert}
 use Rattle.aq_base.specs.declared.data.Assignment.{Assignment}
 use Rattle.aq_base.specs.declared.data.Update.{Update}
 use Rattle.aq_base.specs.declared.data.Delete.{Delete}
-use Rattle.aq_base.specs.declared.data.Columns.{Columns}
 use Rattle.aq_base.specs.declared.data.LockMode.{LockMode}
 use Rattle.aq_base.specs.declared.data.Select.{Select}
-use Rattle.aq_base.specs.declared.modes.ConstraintMode.{ConstraintMode}
-use Rattle.aq_base.specs.declared.modes.Constraints.{Constraints}
 use Rattle.aq_base.specs.declared.modes.SetConstraints.{SetConstraints}
 use Rattle.aq_base.specs.declared.data.Given.TheVariants.{Value as Value_given, Default as Default_given}
-use Rattle.aq_base.specs.declared.data.Source.TheVariants.{Values, Query}
+use Rattle.aq_base.specs.declared.data.Source.TheVariants.{Values}
 use Rattle.aq_base.specs.declared.data.Columns.TheVariants.{All as All_columns, Named as Named_columns}
 use Rattle.aq_base.specs.declared.data.LockMode.TheVariants.{Update as For_update, NoKeyUpdate as For_no_key_update, Share as For_share, KeyShare as For_key_share}
 use Rattle.aq_base.specs.declared.modes.ConstraintMode.TheVariants.{Deferred, Immediate}
 use Rattle.aq_base.specs.declared.modes.Constraints.TheVariants.{All as All_constraints, Named as Named_constraints}
-use Rattle.aq_texts.specs.Written.{Written, Said, say, Name, Mark, columns as columns_tokens, names as names_tokens, listed as listed_tokens, in_parentheses as in_parentheses_tokens}
+use Rattle.aq_texts.specs.Written.{Written, say, Name, Mark, columns as columns_tokens, names as names_tokens, listed as listed_tokens, in_parentheses as in_parentheses_tokens}
 use Rattle.aq_texts.specs.Canon.{perhaps, expression as expression_tokens, given as given_tokens, where_part as where_tokens, source as source_tokens, insert as insert_tokens, assignment as assignment_tokens, update as update_tokens, delete as delete_tokens, shown_columns, lock as lock_tokens, select as select_tokens, constraints as constraints_tokens, mode as mode_token, set_constraints as set_constraints_tokens}
 use Rattle.aq_forms.proofs.Derived.{Derives}
 use Rattle.aq_forms.proofs.Combining.{IsFree, Anything, Semicolon_next, Nothing_refused, MayFollow, says_free, behind_word, left_free, right_free}
@@ -63,9 +60,9 @@ prints_mode Behind =
     (prints_says (codes "DEFERRED") (codes "deferred") Deferred (λ mode. mode_token mode ∷ []) Behind refl refl refl)
     (prints_says (codes "IMMEDIATE") (codes "immediate") Immediate (λ mode. mode_token mode ∷ []) Behind refl refl refl)
 
-pub prints_set_constraints : (Behind : List PlacedLexeme → Type 0) → Prints set_constraints set_constraints_tokens Behind
+pub set_constraints_free : (Behind : List PlacedLexeme → Type 0) (s : SetConstraints) → Derives set_constraints s → IsFree set_constraints s (set_constraints_tokens s) Behind
 unfolding set_constraints
-prints_set_constraints Behind =
+set_constraints_free Behind =
     let parts = Both (λ constraints mode. record { constraints = constraints; mode = mode }) constraints constraint_mode in
     let print : SetConstraints → List Written = λ s. constraints_tokens s.constraints ++ mode_token s.mode ∷ [] in
     prints_word (codes "SET") (codes "set") (word (codes "constraints") ▸ parts) (λ s. say (codes "CONSTRAINTS") ∷ print s) Behind refl refl
@@ -97,16 +94,22 @@ lock_mode_free mode Behind = by_mode mode
   where
     key_share : Rule LockMode
     key_share = word (codes "key") ▸ says (codes "share") For_key_share
+
     shares : Rule LockMode
     shares = Either (Keyword (codes "share") ∷ []) (says (codes "share") For_share) key_share
+
     no_key_update : Rule LockMode
     no_key_update = word (codes "no") ▸ word (codes "key") ▸ says (codes "update") For_no_key_update
+
     others : Rule LockMode
     others = Either (Keyword (codes "no") ∷ []) no_key_update shares
+
     second : (mode : LockMode) → IsFree others mode (mode_tokens mode) Behind → IsFree lock_mode mode (mode_tokens mode) Behind
     second mode free = right_free (Keyword (codes "update") ∷ []) (says (codes "update") For_update) others mode (mode_tokens mode) Behind free
+
     third : (mode : LockMode) → IsFree shares mode (mode_tokens mode) Behind → IsFree lock_mode mode (mode_tokens mode) Behind
     third mode free = second mode (right_free (Keyword (codes "no") ∷ []) no_key_update shares mode (mode_tokens mode) Behind free)
+
     by_mode : (mode : LockMode) → IsFree lock_mode mode (mode_tokens mode) Behind
     by_mode For_update =
         left_free (Keyword (codes "update") ∷ []) (says (codes "update") For_update) others For_update (mode_tokens For_update) Behind
@@ -162,7 +165,7 @@ table_tokens found = say (codes "FROM") ∷ Name found.0 ∷ where_tokens found.
 
 module _
     (expression_free :
-        (scope : Scope) (e : Expr) (Behind : List PlacedLexeme → Type 0) → Derives (whole_expression scope) e → IsFree (whole_expression scope) e (expression_tokens e) Behind)
+    (scope : Scope) (e : Expr) (Behind : List PlacedLexeme → Type 0) → Derives (whole_expression scope) e → IsFree (whole_expression scope) e (expression_tokens e) Behind)
     (scope : Scope) where
   prints_expression : (Behind : List PlacedLexeme → Type 0) → Prints (whole_expression scope) expression_tokens Behind
   prints_expression Behind e derived = expression_free scope e Behind derived

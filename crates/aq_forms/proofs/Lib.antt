@@ -10,3 +10,4 @@ pub mod Expressions
 pub mod Printing
 pub mod Transactions
 pub mod Changes
+pub mod SessionStatements

@@ -1,20 +1,19 @@
 -- Each tree of a rule is printed freely: how this is shown for a rule that is put together from others.
-use Rattle.std.proofs.Common.{◌≡◌, ℕ, true, List, [], ◌∷◌, ◌++◌, map, Option, Some, None, inl, inr, refl, sym, ◌∙◌, subst}
+use Rattle.std.proofs.Common.{◌≡◌, ℕ, true, List, [], ◌∷◌, ◌++◌, map, None, inl, inr, sym, ◌∙◌, subst}
 use Rattle.std.specs.Char.{to_ascii_lowercase}
 use Rattle.aq_base.specs.Names.{Text as Bytes, same_text}
 use Rattle.aq_lex.specs.declared.token.Symbol.{Symbol as SymbolName}
 use Rattle.aq_lex.specs.declared.token.Symbol.TheVariants.{Comma, Semicolon}
 use Rattle.aq_lex.specs.Lexemes.{PlacedLexeme, Symbol}
 use Rattle.aq_grammar.specs.Terminals.{Terminal}
-use Rattle.aq_grammar.specs.Rules.{Refusal, Rule, Done, Both, Either, Unless, refused}
+use Rattle.aq_grammar.specs.Rules.{Refusal, Rule, Both, Either, Unless, refused}
 use Rattle.aq_grammar.specs.Forms.{word, sign, ◌▸◌, mapped, says, optional, listed, in_parentheses, name, names, public_name}
 use Rattle.aq_grammar.specs.Changes.{end_without}
 use Rattle.aq_texts.specs.Written.{Written, Said, Mark, Name, listed as listed_tokens, in_parentheses as in_parentheses_tokens, names as names_tokens}
 use Rattle.aq_texts.specs.Canon.{perhaps}
 use Rattle.aq_forms.proofs.Sound.{is_folded_word}
-use Rattle.aq_forms.proofs.Laid.{laid}
 use Rattle.aq_forms.proofs.Derived.{DerivesEach, DerivesSome, Derives}
-use Rattle.aq_forms.proofs.Combining.{IsFree, Anything, Semicolon_next, Nothing_refused, MayFollow, AreFree, both_free, both_any, then_free, says_free, word_free, mark_free, behind_word, mapped_free, left_free, right_free, some_free, none_free, unless_free, end_free, weaker, listed_any, parentheses_any}
+use Rattle.aq_forms.proofs.Combining.{IsFree, Anything, Semicolon_next, Nothing_refused, MayFollow, AreFree, both_any, then_free, says_free, word_free, mark_free, behind_word, mapped_free, left_free, right_free, some_free, none_free, unless_free, end_free, weaker, listed_any, parentheses_any}
 use Rattle.aq_forms.proofs.Names.{name_named, name_free, public_named, public_free}
 
 -- each tree of the rule is printed freely, where such tokens come behind

@@ -1,11 +1,11 @@
 -- Statements on transaction blocks and savepoints are printed freely.
-use Rattle.std.proofs.Common.{◌≡◌, ℕ, true, List, [], ◌∷◌, ◌++◌, map, Option, Some, None, codes, inl, inr, refl, sym, ◌∙◌, subst}
+use Rattle.std.proofs.Common.{◌≡◌, true, List, [], ◌∷◌, map, Some, None, codes, inl, inr, refl, sym, ◌∙◌, subst}
 use Rattle.std.specs.Char.{to_ascii_lowercase}
 use Rattle.aq_base.specs.Names.{Text as Bytes, same_text}
 use Rattle.aq_base.specs.declared.statement.Isolation.{Isolation}
 use Rattle.aq_base.specs.declared.statement.Statement.{Statement}
 use Rattle.aq_base.specs.declared.statement.Isolation.TheVariants.{ReadCommitted, RepeatableRead}
-use Rattle.aq_base.specs.declared.statement.Statement.TheVariants.{Begin, StartTransaction, Commit, Rollback, Savepoint, Release, RollbackTo}
+use Rattle.aq_base.specs.declared.statement.Statement.TheVariants.{Begin, StartTransaction, Rollback, Savepoint, Release, RollbackTo}
 use Rattle.aq_lex.specs.Lexemes.{PlacedLexeme}
 use Rattle.aq_grammar.specs.Terminals.{Keyword}
 use Rattle.aq_grammar.specs.Rules.{Done, Either}
@@ -16,7 +16,7 @@ use Rattle.aq_texts.specs.Canon.{isolation as isolation_tokens, statement as sta
 use Rattle.aq_forms.proofs.Sound.{is_folded_word}
 use Rattle.aq_forms.proofs.Derived.{Derives}
 use Rattle.aq_forms.proofs.Combining.{IsFree, Anything, Semicolon_next, done_free, word_free, then_free, says_free, behind_word, mapped_free, left_free, right_free, some_free, none_free, unless_free}
-use Rattle.aq_forms.proofs.Printing.{Prints, prints_then, prints_word, prints_mapped, prints_name, name_tokens, semicolon_next}
+use Rattle.aq_forms.proofs.Printing.{Prints, prints_then, prints_name, name_tokens, semicolon_next}
 
 -- WORK and TRANSACTION are left out
 work_free : (Behind : List PlacedLexeme → Type 0) → IsFree work None [] Behind
