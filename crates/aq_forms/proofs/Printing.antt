@@ -20,10 +20,6 @@ use Rattle.aq_forms.proofs.Names.{name_named, name_free, public_named, public_fr
 abbrev pub Prints : {A : Type 0} → Rule A → (A → List Written) → (List PlacedLexeme → Type 0) → Type 0
 Prints {A} r print Behind = (x : A) → Derives r x → IsFree r x (print x) Behind
 
-pub prints_before : {A : Type 0} (r : Rule A) (print : A → List Written) (First Behind : List PlacedLexeme → Type 0) → ((rest : List PlacedLexeme) → Behind rest → First rest)
-    → Prints r print First → Prints r print Behind
-prints_before r print First Behind less all x derived = weaker r x (print x) First Behind less (all x derived)
-
 -- the same tokens, told in another way
 pub prints_as : {A : Type 0} (r : Rule A) (print other : A → List Written) (Behind : List PlacedLexeme → Type 0) → ((x : A) → print x ≡ other x) → Prints r print Behind
     → Prints r other Behind
