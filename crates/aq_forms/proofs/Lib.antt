@@ -19,3 +19,7 @@ pub mod Texts
 pub mod PrintedTokens
 pub mod PrintedLines
 pub mod PrintedWorked
+pub mod Printing
+pub mod Transactions
+pub mod Changes
+pub mod SessionStatements
