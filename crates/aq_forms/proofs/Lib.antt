@@ -7,3 +7,6 @@ pub mod Names
 pub mod Reading
 pub mod Deriving
 pub mod Expressions
+pub mod Printing
+pub mod Validity
+pub mod Timing
