@@ -10,3 +10,4 @@ pub mod Expressions
 pub mod Printing
 pub mod Validity
 pub mod Timing
+pub mod Constraints
