@@ -11,3 +11,4 @@ pub mod Printing
 pub mod Validity
 pub mod Timing
 pub mod Constraints
+pub mod ColumnConstraints
