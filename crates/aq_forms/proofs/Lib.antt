@@ -12,3 +12,4 @@ pub mod Validity
 pub mod Timing
 pub mod Constraints
 pub mod ColumnConstraints
+pub mod Tables
