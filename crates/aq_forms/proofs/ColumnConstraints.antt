@@ -1,8 +1,7 @@
 -- The constraints of a column, as they are printed, are read as the same.
-use Rattle.std.proofs.Common.{◌≡◌, ℕ, zero, suc, true, false, Bool, List, [], ◌∷◌, ◌++◌, Option, Some, None, inl, inr, refl, sym, subst, ◌⊎◌, codes, flat_map, if◌then◌else◌}
+use Rattle.std.proofs.Common.{◌≡◌, ℕ, zero, suc, true, false, Bool, List, [], ◌∷◌, ◌++◌, Option, Some, None, inl, inr, refl, sym, subst, codes, flat_map}
 use Rattle.std.proofs.lemmas.List.{append_assoc}
 use Rattle.aq_base.specs.Names.{Text as Bytes}
-use Rattle.aq_base.specs.declared.fault.SqlFault.{SqlFault}
 use Rattle.aq_base.specs.declared.value.Value.{Value}
 use Rattle.aq_base.specs.declared.catalog.Decl.{Decl}
 use Rattle.aq_base.specs.declared.constraint.Reference.{Reference}
@@ -13,13 +12,12 @@ use Rattle.aq_grammar.specs.Terminals.{Keyword}
 use Rattle.aq_grammar.specs.Rules.{Nonterminal, ValueOf, Rule, Both, Either, Call, Unless, ColumnConstraints, ReferenceEnd}
 use Rattle.aq_grammar.specs.Forms.{word, ◌▸◌, mapped}
 use Rattle.aq_grammar.specs.Nonterminals.{rules}
-use Rattle.aq_grammar.specs.Tables.{Target, target, reference_of, constraint_name, immediate, with_timing, references_then, behind_key, partial_match, not_valid, other_constraints, constraints, not_null, named_constraint, default_or, others_then, column_constraints, other_column_constraints, behind_timing, deferring, behind_not_deferrable, reference_end, decl}
+use Rattle.aq_grammar.specs.Tables.{target, constraint_name, immediate, with_timing, references_then, behind_key, not_valid, other_constraints, constraints, not_null, named_constraint, others_then, column_constraints, other_column_constraints, behind_timing, deferring, behind_not_deferrable, reference_end, decl}
 use Rattle.aq_texts.specs.Written.{Written, Said, Name}
-use Rattle.aq_texts.specs.Canon.{timing, column_constraint, constant as constant_tokens, constraint_name as constraint_name_tokens, reference as reference_tokens}
-use Rattle.aq_forms.proofs.Laid.{laid}
+use Rattle.aq_texts.specs.Canon.{timing, column_constraint, constraint_name as constraint_name_tokens, reference as reference_tokens}
 use Rattle.aq_forms.proofs.Derived.{Trees, DerivesBy, DerivesWithin, DerivesSome}
 use Rattle.aq_forms.proofs.Combining.{IsFree, Anything, MayFollow, Nothing_refused}
-use Rattle.aq_forms.proofs.Printing.{Rest, Prints, Symbol_next, before_symbol, nothing_prints, says_prints, word_then, both_print, both_print_any, mapped_prints, left_prints, right_prints, unless_prints, prints_as}
+use Rattle.aq_forms.proofs.Printing.{Rest, Prints, Symbol_next, before_symbol, nothing_prints, word_then, both_print, both_print_any, mapped_prints, left_prints, right_prints, unless_prints, prints_as}
 use Rattle.aq_forms.proofs.Validity.{both_valid, then_valid, first_valid}
 use Rattle.aq_forms.proofs.Timing.{IsTiming, not_deferrable_is, deferring_is, deferring_prints}
 use Rattle.aq_forms.proofs.Constraints.{IsConstant, constant_valid, constant_prints, IsReference, PerhapsNamed, target_valid, target_part, target_tokens, target_prints, No_partial_match, constraint_name_valid, constraint_name_prints}
@@ -112,7 +110,7 @@ module _ (calls : (n : Nonterminal) → Trees (ValueOf n)) (called : (d : Bool) 
       not_then :
           (a : Unit {0}) (found : Decl × List ColumnConstraint)
           → DerivesBy calls (Either (Keyword (codes "null") ∷ []) (mapped (with_timing immediate) (not_null d))
-              (behind_timing (word (codes "deferrable") ▸ behind_not_deferrable) d)) found → EndsReference d found
+          (behind_timing (word (codes "deferrable") ▸ behind_not_deferrable) d)) found → EndsReference d found
       not_then a found (inl derived) = first_valid (EndsReference d) (λ others e. (inl refl, not_null_valid d others e)) derived
       not_then a found (inr derived) = behind_valid d (word (codes "deferrable") ▸ behind_not_deferrable) found (not_deferrable_is calls) derived
   end_valid d found (inr (inl derived)) = behind_valid d deferring found (deferring_is calls) derived
@@ -136,7 +134,7 @@ constraints_valid d found (others, (most, derived), e) = rw e ((within_valid mos
 abbrev pub all_tokens : List ColumnConstraint → List Written
 all_tokens found = flat_map column_constraint found
 
--- the words that are refused where a constraint may begin
+-- none of the words that are refused where a constraint may begin
 abbrev pub Begins_well : Rest
 Begins_well rest =
     Nothing_refused other_constraints rest × Nothing_refused behind_key rest × Nothing_refused (not_valid ∷ []) rest
@@ -158,7 +156,7 @@ end_begins t (inl e) found lines at rest next = rw e (begin_well found lines at 
 end_begins t (inr (inl e)) found lines at rest next = rw e refl
 end_begins t (inr (inr e)) found lines at rest next = rw e refl
 
--- the tokens behind REFERENCES, by whether they belong to its end
+-- the tokens of a reference and those behind it: its target, and what comes behind that
 reference_and : (r : Reference) (ws : List Written) → reference_tokens r ++ ws ≡ target_tokens (target_part r) ++ (timing r.timing ++ ws)
 reference_and r ws = simp append_assoc
 

@@ -1,5 +1,5 @@
 -- Constants, references and the constraints of a table, as they are printed, are read as the same.
-use Rattle.std.proofs.Common.{◌≡◌, ℕ, zero, suc, true, false, Bool, List, [], ◌∷◌, ◌++◌, Option, Some, None, inl, inr, refl, sym, subst, ◌⊎◌, codes, ◌^◌}
+use Rattle.std.proofs.Common.{◌≡◌, ℕ, zero, suc, true, false, List, [], ◌∷◌, ◌++◌, Option, Some, None, inl, inr, refl, sym, subst, codes, ◌^◌}
 use Rattle.std.specs.Prelude.{ℤ, pos, negsuc, neg_ℤ, nat_lt, IsUtf8}
 use Rattle.std.proofs.lemmas.List.{append_assoc, append-nil}
 use Rattle.aq_base.specs.Names.{Text as Bytes}
@@ -14,10 +14,9 @@ use Rattle.aq_base.specs.declared.constraint.Reference.{Reference}
 use Rattle.aq_base.specs.declared.constraint.TableConstraint.{TableConstraint}
 use Rattle.aq_base.specs.declared.constraint.TableConstraint.TheVariants.{PrimaryKey, Unique, ForeignKey}
 use Rattle.aq_lex.specs.Lexemes.{PlacedLexeme, Lexeme, Word, QuotedName, Integer, Text, Symbol, Directive}
-use Rattle.aq_lex.specs.declared.token.Symbol.TheVariants.{Minus}
-use Rattle.aq_grammar.specs.Terminals.{Terminal, Number as Number_kind, Literal as Literal_kind, fits, number_is, text_is, is_literal, lexeme_number, lexeme_text}
-use Rattle.aq_grammar.specs.Rules.{Nonterminal, ValueOf, Refusal, Both}
-use Rattle.aq_grammar.specs.Forms.{word, ◌▸◌, in_parentheses, name, names, public_name}
+use Rattle.aq_grammar.specs.Terminals.{Number as Number_kind, Literal as Literal_kind, number_is, text_is, is_literal, lexeme_number, lexeme_text}
+use Rattle.aq_grammar.specs.Rules.{Nonterminal, ValueOf, Both}
+use Rattle.aq_grammar.specs.Forms.{in_parentheses, name, names}
 use Rattle.aq_grammar.specs.Changes.{column_list}
 use Rattle.aq_grammar.specs.Tables.{constant, number, partial_match, matching, setting, action, action_on, actions, Target, target_of, target, reference_of, constraint_name, timing_without, not_valid, behind_key, other_constraints, table_primary_key, table_unique, table_foreign_key, bare_table_constraint, table_constraint, decl}
 use Rattle.aq_texts.specs.Written.{Written, Said, Name, Number, Literal, Sign, columns as columns_tokens}

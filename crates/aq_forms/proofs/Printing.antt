@@ -1,5 +1,5 @@
 -- How the parts of a rule are put together, as in Combining, where the rule stands in the type, so that antt finds it.
-use Rattle.std.proofs.Common.{◌≡◌, ℕ, true, Bool, ◌&&◌, List, [], ◌∷◌, ◌++◌, map, Option, Some, None, inl, inr, refl, subst}
+use Rattle.std.proofs.Common.{◌≡◌, ℕ, true, Bool, ◌&&◌, List, [], ◌∷◌, ◌++◌, map, Some, None}
 use Rattle.std.proofs.lemmas.Bool.{and_parts}
 use Rattle.std.specs.Char.{to_ascii_lowercase}
 use Rattle.aq_base.specs.Names.{Text as Bytes, same_text}
@@ -8,11 +8,11 @@ use Rattle.aq_lex.specs.Lexemes.{PlacedLexeme, Symbol}
 use Rattle.aq_lex.specs.declared.token.Symbol.TheVariants.{CloseParen, Semicolon}
 use Rattle.aq_grammar.specs.Terminals.{Terminal}
 use Rattle.aq_grammar.specs.Rules.{Refusal, Rule, Done, Both, Either, Unless}
-use Rattle.aq_grammar.specs.Forms.{word, ◌▸◌, mapped, says, optional, listed, in_parentheses}
+use Rattle.aq_grammar.specs.Forms.{word, ◌▸◌, mapped, says, optional, in_parentheses}
 use Rattle.aq_grammar.specs.Changes.{end_without}
-use Rattle.aq_texts.specs.Written.{Written, Said, listed as listed_tokens, in_parentheses as in_parentheses_tokens}
+use Rattle.aq_texts.specs.Written.{Written, Said, in_parentheses as in_parentheses_tokens}
 use Rattle.aq_forms.proofs.Sound.{is_folded_word}
-use Rattle.aq_forms.proofs.Combining.{IsFree, Anything, Nothing_refused, MayFollow, Semicolon_next, ComesBeforeComma, AreFree, done_free, says_free, both_free, behind_word, mapped_free, left_free, right_free, some_free, none_free, unless_free, end_free, weaker, listed_free, parentheses_free}
+use Rattle.aq_forms.proofs.Combining.{IsFree, Anything, Nothing_refused, MayFollow, Semicolon_next, done_free, says_free, both_free, behind_word, mapped_free, left_free, right_free, some_free, none_free, unless_free, end_free, weaker, parentheses_free}
 
 -- what a rule says may come behind
 abbrev pub Rest : Type 1

@@ -1,5 +1,5 @@
 -- CREATE TABLE and ALTER TABLE, as they are printed, are read as the same.
-use Rattle.std.proofs.Common.{◌≡◌, ℕ, suc, true, false, Bool, ◌&&◌, List, [], ◌∷◌, ◌++◌, Option, Some, None, inl, inr, refl, sym, ap, ◌∙◌, subst, ◌⊎◌, codes, flat_map, if◌then◌else◌}
+use Rattle.std.proofs.Common.{◌≡◌, ℕ, suc, true, false, Bool, ◌&&◌, List, [], ◌∷◌, ◌++◌, Some, None, inl, inr, refl, sym, ap, subst, codes, flat_map, if◌then◌else◌}
 use Rattle.aq_base.specs.Names.{Text as Bytes, same_text}
 use Rattle.aq_base.specs.declared.fault.SqlFault.{SqlFault}
 use Rattle.aq_base.specs.declared.script.Kind.{Kind}
@@ -14,18 +14,18 @@ use Rattle.aq_base.specs.declared.table.AlterTable.{AlterTable as Change}
 use Rattle.aq_base.specs.declared.statement.Statement.{Statement}
 use Rattle.aq_base.specs.declared.statement.Statement.TheVariants.{CreateTable, AlterTable}
 use Rattle.aq_lex.specs.declared.token.Symbol.TheVariants.{OpenParen, CloseParen, Comma}
-use Rattle.aq_lex.specs.Lexemes.{PlacedLexeme, Lexeme, Word, QuotedName}
+use Rattle.aq_lex.specs.Lexemes.{PlacedLexeme, Word}
 use Rattle.aq_grammar.specs.Terminals.{Keyword, Sign, begin_with, is_of_kind}
-use Rattle.aq_grammar.specs.Forms.{word, ◌▸◌, in_parentheses, name, public_name}
-use Rattle.aq_grammar.specs.Tables.{kind, kind_word, constraints, column_item, table_constraint, item, items, other_items, other_constraints, behind_items, create_table, added, perhaps_only, alter_table}
+use Rattle.aq_grammar.specs.Forms.{word, ◌▸◌, name}
+use Rattle.aq_grammar.specs.Tables.{kind, column_item, item, items, other_items, other_constraints, behind_items, create_table, added, alter_table}
 use Rattle.aq_grammar.proofs.Apart.{same_text_is}
 use Rattle.aq_texts.specs.Written.{Written, Said, Name, is_bare, listed as listed_tokens, in_parentheses as in_parentheses_tokens}
 use Rattle.aq_texts.specs.Canon.{statement, kind as kind_token, column_constraint, table_item, table_constraint as table_constraint_tokens}
 use Rattle.aq_forms.proofs.Laid.{lexeme_of, laid}
-use Rattle.aq_forms.proofs.Derived.{Trees, DerivesBy, DerivesSome, Derives}
+use Rattle.aq_forms.proofs.Derived.{DerivesSome, Derives}
 use Rattle.aq_forms.proofs.Combining.{IsFree, Anything, MayFollow, Nothing_refused, Semicolon_next, behind_word}
 use Rattle.aq_forms.proofs.Names.{IsNamed, name_named, public_named}
-use Rattle.aq_forms.proofs.Printing.{Rest, Prints, Symbol_next, semicolon_is_symbol, before_symbol, nothing_prints, says_prints, word_then, both_print, both_print_any, mapped_prints, left_prints, right_prints, unless_prints, prints_before, end_prints, parentheses_print}
+use Rattle.aq_forms.proofs.Printing.{Rest, Prints, Symbol_next, semicolon_is_symbol, before_symbol, nothing_prints, says_prints, word_then, both_print_any, mapped_prints, left_prints, right_prints, unless_prints, prints_before, end_prints, parentheses_print}
 use Rattle.aq_forms.proofs.Validity.{both_valid, then_valid, first_valid, parentheses_valid, Listed, listed_valid, listed_prints, name_prints, public_prints}
 use Rattle.aq_forms.proofs.Constraints.{IsTableConstraint, table_constraint_valid, table_constraint_prints}
 use Rattle.aq_forms.proofs.ColumnConstraints.{AreConstraints, constraints_valid, CalledFree, constraints_print}
@@ -62,9 +62,12 @@ unfolding create_table
 creation_valid s derived =
     then_valid IsCreation
     (λ a b d. both_valid IsCreation
-    (λ table found named rest.
-    (record { table = table; items = found }, refl, public_named DerivesSome table named,
-    first_valid (Listed IsItem) (λ xs inner. parentheses_valid (Listed IsItem) items_valid inner) rest)) d) derived
+    (λ table found named rest. (
+      record { table = table; items = found },
+      refl,
+      public_named DerivesSome table named,
+      first_valid (Listed IsItem) (λ xs inner. parentheses_valid (Listed IsItem) items_valid inner) rest,
+    )) d) derived
 
 -- the statement adds a constraint to a table
 abbrev pub IsChange : Statement → Type 0
@@ -117,11 +120,11 @@ Begins_item rest = Nothing_refused other_items rest
 
 table_constraint_begins : (c : TableConstraint) → MayFollow (table_constraint_tokens c) Symbol_next Begins_item
 table_constraint_begins (PrimaryKey None columns) lines at rest next = refl
-table_constraint_begins (PrimaryKey (Some name) columns) lines at rest next = refl
+table_constraint_begins (PrimaryKey (Some text) columns) lines at rest next = refl
 table_constraint_begins (Unique None columns) lines at rest next = refl
-table_constraint_begins (Unique (Some name) columns) lines at rest next = refl
+table_constraint_begins (Unique (Some text) columns) lines at rest next = refl
 table_constraint_begins (ForeignKey None columns reference) lines at rest next = refl
-table_constraint_begins (ForeignKey (Some name) columns reference) lines at rest next = refl
+table_constraint_begins (ForeignKey (Some text) columns reference) lines at rest next = refl
 
 module _ (text : Bytes) (named : IsNamed text) where
   -- whatever stands behind the column's name, if it begins with neither a parenthesis nor USING
@@ -147,11 +150,11 @@ no_refused_behind = before_symbol (Nothing_refused behind_items) (λ line symbol
 
 added_begins : (c : TableConstraint) → MayFollow (table_constraint_tokens c) Symbol_next (Nothing_refused other_constraints)
 added_begins (PrimaryKey None columns) lines at rest next = refl
-added_begins (PrimaryKey (Some name) columns) lines at rest next = refl
+added_begins (PrimaryKey (Some text) columns) lines at rest next = refl
 added_begins (Unique None columns) lines at rest next = refl
-added_begins (Unique (Some name) columns) lines at rest next = refl
+added_begins (Unique (Some text) columns) lines at rest next = refl
 added_begins (ForeignKey None columns reference) lines at rest next = refl
-added_begins (ForeignKey (Some name) columns reference) lines at rest next = refl
+added_begins (ForeignKey (Some text) columns reference) lines at rest next = refl
 
 change_prints : (s : Statement) → IsChange s → Prints alter_table s (statement s) Symbol_next
 unfolding alter_table added
@@ -193,15 +196,17 @@ module _ (called_free : CalledFree) where
       (both_print_any {f = λ table items. CreateTable (record { table = table; items = items })} {ws = Name made.table ∷ []} (public_prints made.table Anything named)
       (end_prints (parentheses_print (items_print made.items valid) (λ line rest. (line, CloseParen, rest, refl))) no_refused_behind))
 
-  -- the tokens behind CREATE
+  -- it is printed with CREATE, and the rule with the tokens behind that
   pub created_table_free : (s : Statement) → Derives create_table s
       → (tokens : List Written) × (statement s ≡ Said (codes "CREATE") ∷ tokens) × IsFree create_table s tokens Semicolon_next
   created_table_free s derived = created s (creation_valid s derived)
     where
       created : (s : Statement) → IsCreation s → (tokens : List Written) × (statement s ≡ Said (codes "CREATE") ∷ tokens) × IsFree create_table s tokens Semicolon_next
-      created s (made, e, named, valid) =
-          (created_tokens made, ap statement e,
-          subst (λ (s : Statement). IsFree create_table s (created_tokens made) Semicolon_next) (sym e) (prints_before (creation_prints made named valid) semicolon_is_symbol).free)
+      created s (made, e, named, valid) = (
+        created_tokens made,
+        ap statement e,
+        subst (λ (s : Statement). IsFree create_table s (created_tokens made) Semicolon_next) (sym e) (prints_before (creation_prints made named valid) semicolon_is_symbol).free,
+      )
 
   pub create_table_free : (s : Statement) → Derives create_table s → IsFree (word (codes "create") ▸ create_table) s (statement s) Semicolon_next
   create_table_free s derived =

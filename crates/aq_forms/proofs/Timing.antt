@@ -1,20 +1,20 @@
 -- When a constraint is checked, as it is printed, is read as the same.
-use Rattle.std.proofs.Common.{◌≡◌, ℕ, suc, true, false, Bool, List, [], ◌∷◌, ◌++◌, Option, Some, None, inl, inr, refl, sym, subst, ◌⊎◌, codes}
+use Rattle.std.proofs.Common.{◌≡◌, true, false, Bool, List, [], ◌∷◌, inl, inr, refl, ap, ◌⊎◌, codes}
 use Rattle.aq_lex.specs.Lexemes.{PlacedLexeme}
 use Rattle.aq_base.specs.declared.catalog.Decl.{Decl}
 use Rattle.aq_grammar.specs.Rules.{Nonterminal, ValueOf, Refusal}
 use Rattle.aq_grammar.specs.Forms.{word, ◌▸◌}
 use Rattle.aq_grammar.specs.Tables.{initially, decl, immediate, waits, behind_deferrable, behind_not_deferrable, initially_alone, deferring, given_timing, perhaps_timing, timing_without}
-use Rattle.aq_texts.specs.Written.{Written, Said}
+use Rattle.aq_texts.specs.Written.{Said}
 use Rattle.aq_texts.specs.Canon.{timing}
 use Rattle.aq_forms.proofs.Derived.{Trees, DerivesBy, Derives, DerivesSome}
-use Rattle.aq_forms.proofs.Combining.{IsFree, Anything, MayFollow, Nothing_refused}
+use Rattle.aq_forms.proofs.Combining.{IsFree, MayFollow, Nothing_refused}
 use Rattle.aq_forms.proofs.Printing.{Rest, Prints, nothing_prints, says_prints, word_then, mapped_prints, left_prints, right_prints, some_prints, none_prints, unless_prints, end_prints}
-use Rattle.aq_forms.proofs.Validity.{both_valid, then_valid, first_valid}
+use Rattle.aq_forms.proofs.Validity.{then_valid, first_valid}
 
 -- what a rule gives: nothing waits that is not deferrable
 abbrev pub IsTiming : Decl → Type 0
-IsTiming timing = (timing ≡ decl false false) ⊎ ((timing ≡ decl true false) ⊎ (timing ≡ decl true true))
+IsTiming t = (t ≡ decl false false) ⊎ ((t ≡ decl true false) ⊎ (t ≡ decl true true))
 
 deferrable_is : (deferred : Bool) → IsTiming (decl true deferred)
 deferrable_is false = inr (inl refl)
@@ -43,6 +43,15 @@ module _ (calls : (n : Nonterminal) → Trees (ValueOf n)) where
   unfolding timing_without perhaps_timing
   timing_is refusals t (inl derived) = first_valid IsTiming (λ x d. given_is x d) derived
   timing_is refusals t (inr e) = inl e
+
+-- nothing waits for the commit that is not deferrable
+pub never_waits_alone : (refusals : List Refusal) → Derives (timing_without refusals) (decl false true) → ⊥
+never_waits_alone refusals derived = no_such (timing_is DerivesSome refusals (decl false true) derived)
+  where
+    no_such : IsTiming (decl false true) → ⊥
+    no_such (inl e) = let differ : true ≡ false = ap (λ (t : Decl). t.deferred) e in cc
+    no_such (inr (inl e)) = let differ : true ≡ false = ap (λ (t : Decl). t.deferred) e in cc
+    no_such (inr (inr e)) = let differ : false ≡ true = ap (λ (t : Decl). t.deferrable) e in cc
 
 -- ---- as it is printed
 

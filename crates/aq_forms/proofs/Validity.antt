@@ -1,5 +1,5 @@
 -- What a tree of a rule is, by the parts of the rule.
-use Rattle.std.proofs.Common.{◌≡◌, List, [], ◌∷◌, Option, Some, None, inl, inr, refl, sym, subst, ◌⊎◌}
+use Rattle.std.proofs.Common.{List, [], ◌∷◌, sym, subst}
 use Rattle.aq_grammar.specs.Rules.{Nonterminal, ValueOf, Rule}
 use Rattle.aq_base.specs.Names.{Text as Bytes}
 use Rattle.aq_lex.specs.declared.token.Symbol.TheVariants.{Comma}
