@@ -23,3 +23,10 @@ pub mod Printing
 pub mod Transactions
 pub mod Changes
 pub mod SessionStatements
+pub mod Printing
+pub mod Composing
+pub mod Validity
+pub mod Timing
+pub mod Constraints
+pub mod ColumnConstraints
+pub mod Tables
