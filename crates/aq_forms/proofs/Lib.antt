@@ -23,7 +23,6 @@ pub mod Printing
 pub mod Transactions
 pub mod Changes
 pub mod SessionStatements
-pub mod Printing
 pub mod Composing
 pub mod Validity
 pub mod Timing
