@@ -18,7 +18,7 @@ pub stop_parts : {A : Type 0} (fault : Option SqlFault) (tokens : List PlacedLex
 stop_parts None tokens outcome y last e = (refl, e)
 stop_parts (Some fault) tokens outcome y last e = cc
 
-choice_parts : {A : Type 0} (test : Bool) (one other : Outcome A) (y : A) (last : List PlacedLexeme) → (if test then one else other) ≡ Read y last
+pub choice_parts : {A : Type 0} (test : Bool) (one other : Outcome A) (y : A) (last : List PlacedLexeme) → (if test then one else other) ≡ Read y last
     → ((test ≡ true) × (one ≡ Read y last)) ⊎ ((test ≡ false) × (other ≡ Read y last))
 choice_parts true one other y last e = inl (refl, e)
 choice_parts false one other y last e = inr (refl, e)

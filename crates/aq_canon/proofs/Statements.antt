@@ -133,6 +133,10 @@ pub record StatementsAgain (section : Section) (state : ℕ) (xs : List Placed) 
   pub spelled : SpellsStatements section found tokens
   pub read : ReadsOrLimit (read_all_statements section state (tokens ++ rest)) found rest
 
+pub texts_before : (front rest : List PlacedLexeme) → HaveTexts (front ++ rest) → HaveTexts front
+texts_before [] rest texts = tt
+texts_before (token ∷ front) rest texts = (texts.0, texts_before front rest texts.1)
+
 module _ (section : Section) (fits : SectionFits section) (again : AreReadAgain section) (ends : EndsFree section) where
   abbrev next_count : ℕ → Placed → ℕ
   next_count before placed = before + 1
