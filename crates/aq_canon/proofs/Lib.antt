@@ -4,3 +4,4 @@ pub mod Statements
 pub mod Sessions
 pub mod Schedules
 pub mod Scripts
+pub mod Laws

@@ -24,7 +24,8 @@ use Rattle.aq_forms.proofs.Derived.{Trees, DerivesBy, DerivesEach, DerivesSome, 
 use Rattle.aq_forms.proofs.Free.{ReadsOrLimit, Free}
 use Rattle.aq_forms.proofs.Combining.{IsFree, AreFree, Anything, token_free, symbol_free, then_free, both_any, left_free, many_free}
 use Rattle.aq_forms.proofs.Names.{plain_named, name_fits, name_sound, name_text_is}
-use Rattle.aq_forms.proofs.Reading.{free_reads, free_spells}
+use Rattle.aq_forms.proofs.Reading.{free_reads, free_spells, free_sound}
+use Rattle.aq_forms.proofs.PrintedLines.{AllSound, all_sound}
 use Rattle.aq_forms.proofs.Deriving.{derives}
 use Rattle.aq_forms.proofs.Headings.{has_no_heading}
 use Rattle.aq_canon.proofs.Outcomes.{both_parts, both_again}
@@ -104,7 +105,13 @@ abbrev pub schedule_tokens : Option (List Item) → List Written
 schedule_tokens None = []
 schedule_tokens (Some found) = Heading_token Schedule ∷ flat_map item_tokens found
 
+-- the tokens of its items can be printed
+abbrev pub IsSoundSchedule : Option (List Item) → Type 0
+IsSoundSchedule None = Unit {0}
+IsSoundSchedule (Some found) = AllSound (flat_map item_tokens found)
+
 pub record ScheduleAgain (found : Option (List Item)) (tokens : List PlacedLexeme) : Type 0 where
+  pub sound : IsSoundSchedule found
   pub spelled : Spells schedule found tokens
   pub read : ReadsOrLimit (reads schedule tokens) found []
 
@@ -128,7 +135,7 @@ items_again tokens rest found texts read lines at =
 
 none_again : ScheduleAgain None []
 unfolding schedule
-none_again = record { spelled = inr (refl, refl); read = inl refl }
+none_again = record { sound = tt; spelled = inr (refl, refl); read = inl refl }
 
 some_again : (found : List Item) (lines : ℕ → ℕ) (at : ℕ) → Free items found (laid lines (suc at) (flat_map item_tokens found)) []
     → ScheduleAgain (Some found) (laid lines at (schedule_tokens (Some found)))
@@ -139,6 +146,7 @@ some_again found lines at free =
     let read : ReadsOrLimit (reads items behind) found [] =
     subst (λ (u : List PlacedLexeme). ReadsOrLimit (reads items u) found []) (append-nil behind) (free_reads items found behind [] items_fit refl free) in
     record {
+      sound = all_sound lines (suc at) (flat_map item_tokens found) (free_sound items found behind [] free);
       spelled =
           inl (title ∷ behind, [], found, tt,
           (title ∷ [], behind, tt, found, (title, refl, refl, refl), free_spells items found behind [] free, refl, refl), (refl, refl), sym (append-nil (title ∷ behind)), refl);

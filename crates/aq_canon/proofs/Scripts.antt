@@ -17,17 +17,18 @@ use Rattle.aq_script.proofs.Sections.{setup_right}
 use Rattle.aq_script.proofs.Scripts.{sessions_right}
 use Rattle.aq_script.proofs.ReadStatements.{section_fits}
 use Rattle.aq_parse.specs.declared.statements.Place.TheVariants as places
-use Rattle.aq_texts.specs.Written.{Written, Heading as Heading_token}
-use Rattle.aq_texts.specs.Canon.{placed_lines, setup_lines, session_lines, schedule_lines, script_lines}
+use Rattle.aq_texts.specs.Written.{Written, Name, Heading as Heading_token}
+use Rattle.aq_texts.specs.Canon.{item, placed_lines, setup_lines, session_lines, schedule_lines, script_lines}
 use Rattle.aq_forms.proofs.Sound.{HaveTexts}
 use Rattle.aq_forms.proofs.Laid.{laid, past, laid_append}
 use Rattle.aq_forms.proofs.Free.{ReadsOrLimit}
+use Rattle.aq_forms.proofs.PrintedLines.{IsLine, Plain, Headed, AllLines, AllSound, are_sound}
 use Rattle.aq_canon.specs.Same.{statement_alone, session_alone, script_alone, AreSame}
 use Rattle.aq_canon.proofs.Outcomes.{bind_parts, both_parts, both_again}
 use Rattle.aq_canon.proofs.Repeated.{choice_parts}
-use Rattle.aq_canon.proofs.Statements.{AreReadAgain, HeadingNext, AtEnd, AtSession, AtSchedule, placed_tokens, statements_again, setup_ends_free, texts_behind}
-use Rattle.aq_canon.proofs.Sessions.{ScheduleNext, Ends, Schedules, session_tokens, sessions_again, token_parts}
-use Rattle.aq_canon.proofs.Schedules.{schedule_tokens, schedule_again}
+use Rattle.aq_canon.proofs.Statements.{AreReadAgain, HeadingNext, AtEnd, AtSession, AtSchedule, placed_tokens, EachSound, statements_again, setup_ends_free, texts_behind}
+use Rattle.aq_canon.proofs.Sessions.{ScheduleNext, Ends, Schedules, session_tokens, EachSoundSession, sessions_again, token_parts}
+use Rattle.aq_canon.proofs.Schedules.{schedule_tokens, IsSoundSchedule, schedule_again}
 
 -- ---- the tokens of a script
 
@@ -54,7 +55,7 @@ setup_is [] = refl
 setup_is (x ∷ xs) = ap (λ (u : List Written). Heading_token Setup ∷ u) (placed_is (x ∷ xs))
 
 session_is : (x : SessionText) → all_tokens (session_lines x) ≡ session_tokens x
-session_is x = ap (λ (u : List Written). Heading_token Session ∷ Rattle.aq_texts.specs.Written.Name x.name ∷ u) (placed_is x.statements)
+session_is x = ap (λ (u : List Written). Heading_token Session ∷ Name x.name ∷ u) (placed_is x.statements)
 
 sessions_are : (xs : List SessionText) → all_tokens (flat_map session_lines xs) ≡ flat_map session_tokens xs
 sessions_are [] = refl
@@ -72,11 +73,43 @@ tokens_are script =
     (tokens_append (flat_map session_lines script.sessions) (schedule_lines script.schedule)
     ∙ ap₂ (λ (a b : List Written). a ++ b) (sessions_are script.sessions) (schedule_is script.schedule))
 
+-- ---- lines of tokens that can be printed
+
+lines_append : (a b : List (List Written)) → AllLines a → AllLines b → AllLines (a ++ b)
+lines_append [] b first second = second
+lines_append (line ∷ a) b first second = (first.0, lines_append a b first.1 second)
+
+plain_line : (tokens : List Written) → AllSound tokens → IsLine tokens
+plain_line tokens sound = Plain tokens (are_sound (λ n. 0) 0 tokens sound)
+
+placed_sound : (xs : List Placed) → EachSound xs → AllLines (placed_lines xs)
+placed_sound [] sound = tt
+placed_sound (x ∷ xs) sound = (plain_line (placed_tokens x) sound.0, placed_sound xs sound.1)
+
+setup_sound : (xs : List Placed) → EachSound xs → AllLines (setup_lines xs)
+setup_sound [] sound = tt
+setup_sound (x ∷ xs) sound = (Headed Setup [] tt, placed_sound (x ∷ xs) sound)
+
+sessions_sound : (xs : List SessionText) → EachSoundSession xs → AllLines (flat_map session_lines xs)
+sessions_sound [] sound = tt
+sessions_sound (x ∷ xs) sound =
+    lines_append (session_lines x) (flat_map session_lines xs) (Headed Session (Name x.name ∷ []) (sound.0.0, tt), placed_sound x.statements sound.0.1) (sessions_sound xs sound.1)
+
+schedule_sound : (found : Option (List Item)) → IsSoundSchedule found → AllLines (schedule_lines found)
+schedule_sound None sound = tt
+schedule_sound (Some found) sound = (Headed Schedule (flat_map item found) (are_sound (λ n. 0) 0 (flat_map item found) sound), tt)
+
+lines_sound : (script : Script) → EachSound script.setup → EachSoundSession script.sessions → IsSoundSchedule script.schedule → AllLines (script_lines script)
+lines_sound script setup sessions schedule =
+    lines_append (setup_lines script.setup) (flat_map session_lines script.sessions ++ schedule_lines script.schedule) (setup_sound script.setup setup)
+    (lines_append (flat_map session_lines script.sessions) (schedule_lines script.schedule) (sessions_sound script.sessions sessions) (schedule_sound script.schedule schedule))
+
 -- ---- the setup
 
 pub record SetupAgain (xs : List Placed) (tokens rest : List PlacedLexeme) : Type 0 where
   pub found : List Placed
   pub same : map statement_alone found ≡ map statement_alone xs
+  pub sound : EachSound xs
   pub spelled : SpellsSetup found tokens
   pub read : ReadsOrLimit (read_setup (tokens ++ rest)) found rest
 
@@ -95,6 +128,7 @@ module _ (setup : AreReadAgain in_setup) where
       record {
         found = are.found;
         same = are.same;
+        sound = are.sound;
         spelled = inr (title ∷ [], statements, tt, are.found, (title, refl, refl, refl), are.spelled, refl, refl);
         read =
             both_again (λ (said : Unit {0}) (found : List Placed). found) (reads (heading Setup)) (λ said. read_all_statements in_setup 0) (title ∷ statements ++ rest) (statements ++ rest) rest tt
@@ -103,7 +137,7 @@ module _ (setup : AreReadAgain in_setup) where
 
   pub setup_again : (tokens last : List PlacedLexeme) (xs : List Placed) → HaveTexts tokens → read_setup tokens ≡ Read xs last → (lines : ℕ → ℕ) (at : ℕ) (rest : List PlacedLexeme)
       → HeadingNext rest → SetupAgain xs (laid lines at (setup_tokens xs)) rest
-  setup_again tokens last [] texts read lines at rest behind = record { found = []; same = refl; spelled = inl (refl, refl); read = inl (no_setup rest behind) }
+  setup_again tokens last [] texts read lines at rest behind = record { found = []; same = refl; sound = tt; spelled = inl (refl, refl); read = inl (no_setup rest behind) }
   setup_again tokens last (first ∷ others) texts read lines at rest behind =
       by_choice
       (choice_parts (begins (Heading Setup ∷ []) tokens) (read_both (λ (said : Unit {0}) (found : List Placed). found) (reads (heading Setup)) (λ said. read_all_statements in_setup 0) tokens)
@@ -128,6 +162,7 @@ module _ (setup : AreReadAgain in_setup) where
     pub record ScriptAgain (script : Script) (tokens : List PlacedLexeme) : Type 0 where
       pub found : Script
       pub same : AreSame found script
+      pub lines : AllLines (script_lines script)
       pub spelled : SpellsScript found tokens
       pub read : ReadsOrLimit (read_script tokens) found []
 
@@ -170,6 +205,7 @@ module _ (setup : AreReadAgain in_setup) where
           found = record { setup = setup_is.found; sessions = sessions_is.found; schedule = script.schedule };
           same =
               ap₂ (λ (setup : List Placed) (sessions : List SessionText). record { setup = setup; sessions = sessions; schedule = script.schedule }) setup_is.same sessions_is.same;
+          lines = lines_sound script setup_is.sound sessions_is.sound schedule_is.sound;
           spelled =
               (first, second ++ third, setup_is.found, (sessions_is.found, script.schedule), setup_is.spelled,
               (second, third, sessions_is.found, script.schedule, sessions_is.spelled, schedule_is.spelled, refl, refl), refl, refl);

@@ -25,7 +25,7 @@ use Rattle.aq_forms.proofs.Names.{IsNamed, plain_named, name_text_is}
 use Rattle.aq_canon.specs.Same.{statement_alone, session_alone}
 use Rattle.aq_canon.proofs.Outcomes.{both_parts, both_again}
 use Rattle.aq_canon.proofs.Repeated.{IsAgain, AreAgain, AreSameEach, each_again, stop_parts}
-use Rattle.aq_canon.proofs.Statements.{AreReadAgain, HeadingNext, AtEnd, AtSession, AtSchedule, placed_tokens, StatementsAgain, statements_again, session_ends_free, texts_behind, laid_length}
+use Rattle.aq_canon.proofs.Statements.{AreReadAgain, HeadingNext, AtEnd, AtSession, AtSchedule, placed_tokens, EachSound, StatementsAgain, statements_again, session_ends_free, texts_behind, laid_length}
 use Rattle.aq_script.proofs.ReadStatements.{section_fits}
 use Rattle.aq_parse.specs.declared.statements.Place.TheVariants as places
 
@@ -42,7 +42,12 @@ abbrev pub session_tokens : SessionText → List Written
 session_tokens session = Heading_token Session ∷ Name session.name ∷ flat_map placed_tokens session.statements
 
 abbrev pub SameSession : SessionText → SessionText → Type 0
-SameSession a b = session_alone a ≡ session_alone b
+SameSession a b = (session_alone a ≡ session_alone b) × IsSound (lexeme_of (Name b.name)) × EachSound b.statements
+
+-- the tokens of each can be printed
+abbrev pub EachSoundSession : List SessionText → Type 0
+EachSoundSession [] = Unit {0}
+EachSoundSession (x ∷ xs) = (IsSound (lexeme_of (Name x.name)) × EachSound x.statements) × EachSoundSession xs
 
 -- a token that is read
 pub token_parts : {A : Type 0} (kind : Terminal) (f : PlacedLexeme → A) (tokens rest : List PlacedLexeme) (x : A) → read_token kind f tokens ≡ Read x rest
@@ -173,7 +178,9 @@ module _ (again : AreReadAgain in_session) where
         free = no_limit (nat_lt (length state.names) session_limit) (lines at) (lines at) (name_at (lines (suc at)) x.name ∷ behind_name) (name_at (lines (suc at)) x.name ∷ behind_name) tokens begun none;
         begun = refl;
         found = found;
-        same = ap (λ (statements : List Placed). record { name = x.name; statements = statements }) are.same;
+        same =
+            (ap (λ (statements : List Placed). record { name = x.name; statements = statements }) are.same, subst IsSound (sym name_is) (plain_sound token.lexeme parts.is_plain parts.has_text),
+            are.sound);
         next_same =
             ap (λ (count : ℕ). record { statements = state.statements + count; names = state.names ++ x.name ∷ [] })
             (sym (length-map are.found statement_alone) ∙ ap (λ (xs : List Placed). length xs) are.same ∙ length-map x.statements statement_alone);
@@ -200,6 +207,7 @@ module _ (again : AreReadAgain in_session) where
   pub record SessionsAgain (statements : ℕ) (xs : List SessionText) (tokens rest : List PlacedLexeme) : Type 0 where
     pub found : List SessionText
     pub same : map session_alone found ≡ map session_alone xs
+    pub sound : EachSoundSession xs
     pub spelled : SpellsSessions found tokens
     pub read : ReadsOrLimit (read_all_sessions statements (tokens ++ rest)) found rest
 
@@ -220,8 +228,17 @@ module _ (again : AreReadAgain in_session) where
       (λ before tokens rest x texts read. session_texts before tokens rest x texts read) session_again (λ x lines at rest. AtSession (lines at) _) heading_next sessions_end (length tokens) first tokens last
       xs texts read size
       (omega (arith, session_count xs, laid_length lines at (flat_map session_tokens xs), length-append (laid lines at (flat_map session_tokens xs)) rest)) lines at rest behind in
-      record { found = are.found; same = same_each are.found xs are.same; spelled = are.spelled; read = are.read }
+      record { found = are.found; same = same_each are.found xs are.same; sound = sound_each are.found xs are.same; spelled = are.spelled; read = are.read }
     where
+      AreSameSessions : List SessionText → List SessionText → Type 0
+      AreSameSessions = AreSameEach (Heading Session ∷ []) session_refusals session_reader and_session SpellsSession session_tokens SameSession HeadingNext ScheduleNext
+
+      sound_each : (found xs : List SessionText) → AreSameSessions found xs → EachSoundSession xs
+      sound_each [] [] same = tt
+      sound_each [] (x ∷ xs) same = absurd same
+      sound_each (x ∷ found) [] same = absurd same
+      sound_each (x ∷ found) (y ∷ xs) same = ((same.0.1, same.0.2), sound_each found xs same.1)
+
       sessions_end : (before : Before) (rest : List PlacedLexeme) → ScheduleNext rest → (refused (session_refusals before) rest ≡ None) × (begins (Heading Session ∷ []) rest ≡ false)
       sessions_end before [] Ends = (by_test (nat_lt (length before.names) session_limit), refl)
         where
@@ -234,10 +251,8 @@ module _ (again : AreReadAgain in_session) where
           by_test true = refl
           by_test false = refl
 
-      same_each : (found xs : List SessionText)
-          → AreSameEach (Heading Session ∷ []) session_refusals session_reader and_session SpellsSession session_tokens SameSession HeadingNext ScheduleNext found xs
-          → map session_alone found ≡ map session_alone xs
+      same_each : (found xs : List SessionText) → AreSameSessions found xs → map session_alone found ≡ map session_alone xs
       same_each [] [] same = refl
       same_each [] (x ∷ xs) same = absurd same
       same_each (x ∷ found) [] same = absurd same
-      same_each (x ∷ found) (y ∷ xs) same = ap₂ (λ (z : SessionText) (zs : List SessionText). z ∷ zs) same.0 (same_each found xs same.1)
+      same_each (x ∷ found) (y ∷ xs) same = ap₂ (λ (z : SessionText) (zs : List SessionText). z ∷ zs) same.0.0 (same_each found xs same.1)

@@ -26,6 +26,7 @@ use Rattle.aq_texts.specs.Canon.{statement, statement_tokens}
 use Rattle.aq_forms.proofs.Sound.{HaveTexts}
 use Rattle.aq_forms.proofs.Laid.{laid}
 use Rattle.aq_forms.proofs.Free.{ReadsOrLimit}
+use Rattle.aq_forms.proofs.PrintedLines.{AllSound}
 use Rattle.aq_forms.proofs.Combining.{Anything}
 use Rattle.aq_canon.specs.Same.{statement_alone}
 use Rattle.aq_canon.proofs.Outcomes.{bind_parts}
@@ -37,6 +38,7 @@ pub record IsReadAgain (section : Section) (s : Statement) (tokens rest : List P
   pub spelled : Spells (ended section) s tokens
   pub begun : begins (kinds_of section) (tokens ++ rest) ≡ true
   pub free : refused section.refused (tokens ++ rest) ≡ None
+  pub sound : AllSound (statement_tokens s)
 
 abbrev pub AreReadAgain : Section → Type 0
 AreReadAgain section =
@@ -53,7 +55,12 @@ abbrev pub placed_tokens : Placed → List Written
 placed_tokens placed = statement_tokens placed.statement
 
 abbrev pub SamePlaced : Placed → Placed → Type 0
-SamePlaced a b = statement_alone a ≡ statement_alone b
+SamePlaced a b = (statement_alone a ≡ statement_alone b) × AllSound (placed_tokens b)
+
+-- the tokens of each can be printed
+abbrev pub EachSound : List Placed → Type 0
+EachSound [] = Unit {0}
+EachSound (x ∷ xs) = AllSound (placed_tokens x) × EachSound xs
 
 -- the line of a statement's first token
 first_line_is : (lines : ℕ → ℕ) (at : ℕ) (ws : List Written) (rest : List PlacedLexeme)
@@ -130,6 +137,7 @@ room section statements tokens none begun = has_room section tt statements token
 pub record StatementsAgain (section : Section) (state : ℕ) (xs : List Placed) (tokens rest : List PlacedLexeme) : Type 0 where
   pub found : List Placed
   pub same : map statement_alone found ≡ map statement_alone xs
+  pub sound : EachSound xs
   pub spelled : SpellsStatements section found tokens
   pub read : ReadsOrLimit (read_all_statements section state (tokens ++ rest)) found rest
 
@@ -171,7 +179,7 @@ module _ (section : Section) (fits : SectionFits section) (again : AreReadAgain 
         free = free_behind section state (laid lines at (placed_tokens x) ++ rest) (room section state tokens none begun) is.free;
         begun = is.begun;
         found = record { line = lines at; statement = x.statement };
-        same = refl;
+        same = (refl, is.sound);
         next_same = refl;
         spelled = (is.spelled, line.0);
         read = placed_read (reads (ended section) (laid lines at (placed_tokens x) ++ rest)) is.read line.1;
@@ -195,12 +203,20 @@ module _ (section : Section) (fits : SectionFits section) (again : AreReadAgain 
       each_again (kinds_of section) (refused_behind section) (λ before. read_placed section) next_count (SpellsPlaced section) placed_tokens SamePlaced Anything HeadingNext
       (λ before tokens rest x texts read. placed_texts tokens rest x texts read) placed_again (λ x lines at rest. tt) (λ rest behind. tt) ends (length tokens) state tokens last xs texts read size
       (omega (arith, statement_count xs, laid_length lines at (flat_map placed_tokens xs), length-append (laid lines at (flat_map placed_tokens xs)) rest)) lines at rest behind in
-      record { found = are.found; same = same_each are.found xs are.same; spelled = are.spelled; read = are.read }
+      record { found = are.found; same = same_each are.found xs are.same; sound = sound_each are.found xs are.same; spelled = are.spelled; read = are.read }
     where
-      same_each : (found xs : List Placed)
-          → AreSameEach (kinds_of section) (refused_behind section) (λ before. read_placed section) next_count (SpellsPlaced section) placed_tokens SamePlaced Anything HeadingNext found xs
-          → map statement_alone found ≡ map statement_alone xs
+      AreSamePlaced : List Placed → List Placed → Type 0
+      AreSamePlaced =
+          AreSameEach (kinds_of section) (refused_behind section) (λ before. read_placed section) next_count (SpellsPlaced section) placed_tokens SamePlaced Anything HeadingNext
+
+      sound_each : (found xs : List Placed) → AreSamePlaced found xs → EachSound xs
+      sound_each [] [] same = tt
+      sound_each [] (x ∷ xs) same = absurd same
+      sound_each (x ∷ found) [] same = absurd same
+      sound_each (x ∷ found) (y ∷ xs) same = (same.0.1, sound_each found xs same.1)
+
+      same_each : (found xs : List Placed) → AreSamePlaced found xs → map statement_alone found ≡ map statement_alone xs
       same_each [] [] same = refl
       same_each [] (x ∷ xs) same = absurd same
       same_each (x ∷ found) [] same = absurd same
-      same_each (x ∷ found) (y ∷ xs) same = ap₂ (λ (z : Placed) (zs : List Placed). z ∷ zs) same.0 (same_each found xs same.1)
+      same_each (x ∷ found) (y ∷ xs) same = ap₂ (λ (z : Placed) (zs : List Placed). z ∷ zs) same.0.0 (same_each found xs same.1)
