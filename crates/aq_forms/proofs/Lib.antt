@@ -4,6 +4,7 @@ pub mod Derived
 pub mod Free
 pub mod Combining
 pub mod Names
+pub mod BodyForms
 pub mod Reading
 pub mod Deriving
 pub mod Expressions
