@@ -5,6 +5,7 @@ pub mod Free
 pub mod Combining
 pub mod Names
 pub mod BodyForms
+pub mod Depths
 pub mod Reading
 pub mod Deriving
 pub mod Expressions
