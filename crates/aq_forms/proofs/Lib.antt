@@ -6,6 +6,7 @@ pub mod Combining
 pub mod Names
 pub mod BodyForms
 pub mod Depths
+pub mod Bodies
 pub mod Reading
 pub mod Deriving
 pub mod Expressions
