@@ -1,5 +1,6 @@
 -- The code of a function is printed as tokens that are read as the same code, where no more IFs lie within one another than may.
 use Rattle.std.proofs.Common.{◌≡◌, Bool, false, if◌then◌else◌, ℕ, zero, suc, ◌≤◌, max, true, List, [], ◌∷◌, ◌++◌, flat_map, Option, Some, None, inl, inr, refl, sym, ap, ◌∙◌, subst, codes, append_assoc, arith}
+use Rattle.std.proofs.lemmas.List.{append-nil}
 use Rattle.std.specs.Prelude.{IsUtf8}
 use Rattle.aq_base.specs.Names.{Text as Bytes}
 use Rattle.aq_base.specs.declared.expr.Expr.{Expr}
@@ -16,7 +17,7 @@ use Rattle.aq_lex.specs.declared.token.Symbol.TheVariants.{Semicolon, DollarQuot
 use Rattle.aq_lex.specs.Lexemes.{PlacedLexeme, Lexeme, Word, QuotedName, Integer, Text, Symbol, Directive}
 use Rattle.aq_grammar.specs.declared.scope.Scope.{Scope}
 use Rattle.aq_grammar.specs.declared.scope.Scope.TheVariants.{InCode}
-use Rattle.aq_grammar.specs.Terminals.{begin_with, Keyword, Message, Sign, fits, text_is, is_message, text_of, lexeme_text}
+use Rattle.aq_grammar.specs.Terminals.{Terminal, begin_with, Keyword, Message, Sign, fits, text_is, is_message, text_of, lexeme_text}
 use Rattle.aq_grammar.specs.Rules.{Nonterminal, ValueOf, Rule, Refusal, Done, Token, Both, Either, Many, Call, Block, refused}
 use Rattle.aq_grammar.specs.Forms.{word, sign, ◌▸◌, ◌◂◌, mapped, says, optional}
 use Rattle.aq_grammar.specs.Nonterminals.{rules}
@@ -176,6 +177,10 @@ statements_free room (s ∷ others) all lines at rest none =
     ended_free room s all.0 lines at (laid lines after (canon.block others) ++ rest) tt, statements_free room others all.1 lines after rest none,
     laid_append lines at tokens (canon.block others))
 
+block_free : (room : ℕ) (xs : List BodyStatement) → ArePrinted room xs → IsFree (block room) xs (canon.block xs) Ends_block
+unfolding block
+block_free room xs all lines at rest behind = (xs, statements_free room xs all lines at rest (none_in_room room rest behind), refl)
+
 -- ---- what comes behind the first block of an IF
 
 -- the branches of an IF, and what may come behind each of them
@@ -223,6 +228,12 @@ end_follows : (others : List ElseIf) (last : Option (List BodyStatement)) (Behin
 end_follows [] None Behind lines at rest behind = refl
 end_follows [] (Some found) Behind lines at rest behind = refl
 end_follows (first ∷ others) last Behind lines at rest behind = refl
+
+-- an IF is deep, however much room there is for it
+if_is_deep : (calls : (n : Nonterminal) → Trees (ValueOf n)) (room : ℕ) (s : BodyStatement) → DerivesBy calls (if_statement room) s → (less : ℕ) × (statement_depth s ≡ suc less)
+unfolding if_statement
+if_is_deep calls room s (said, inner, _, (condition, (first, (others, last)), _, _, b), a) =
+    (max (block_depth first) (max (branches_depth others) (perhaps_deep block_depth last)), ap statement_depth (a ∙ b) ∙ if_depth condition first others last)
 
 -- the blocks of a derivation in which so many calls lie within one another are printed freely
 abbrev AreBlocksFree : ℕ → ℕ → Type 0
@@ -361,3 +372,112 @@ module _
           (subst (λ (depth : ℕ). depth ≤ suc room) depth few));
         allowed = λ lines at rest behind. refl;
       }
+
+  -- no IF stands where there is no room
+  if_in_room : (most room : ℕ) → ((less : ℕ) → AreBlocksFree most less) → (s : BodyStatement) → DerivesBy (DerivesWithin most) (if_statement room) s
+      → statement_depth s ≤ room → IsPrinted room (if_statement room) s
+  if_in_room most (suc room) free s derived few = if_printed most room (free room) s derived few
+  if_in_room most zero free s derived few =
+      let deep = if_is_deep (DerivesWithin most) zero s derived in
+      let depth : statement_depth s ≡ suc deep.0 = deep.1 in
+      absurd (omega arith)
+
+  -- a statement that is a data statement too
+  as_printed : (A : Type 0) (room : ℕ) (f : A → BodyStatement) (rule : Rule A) (print : A → List Written)
+      → ((x : A) → canon.body_statement (f x) ≡ print x) → ((x : A) → MayFollow (print x) Anything (Nothing_refused (refused_in_code room)))
+      → (most : ℕ) → ((x : A) → Derives rule x → IsFree rule x (print x) Semicolon_next)
+      → (s : BodyStatement) → DerivesBy (DerivesWithin most) (mapped f rule) s → IsPrinted room (mapped f rule) s
+  as_printed A room f rule print is allowed most free s (x, _, derived, _, e) =
+      record {
+        tokens = print x;
+        is = ap canon.body_statement e ∙ is x;
+        free = subst (λ (s : BodyStatement). IsFree (mapped f rule) s (print x) Semicolon_next) (sym e)
+          (mapped_free f rule x (print x) Semicolon_next (free x (derives_within most rule x derived)));
+        allowed = allowed x;
+      }
+
+  insert_allowed : (room : ℕ) (s : Insert) → MayFollow (canon.insert s) Anything (Nothing_refused (refused_in_code room))
+  insert_allowed zero s lines at rest behind = refl
+  insert_allowed (suc room) s lines at rest behind = refl
+
+  update_allowed : (room : ℕ) (s : Update) → MayFollow (canon.update s) Anything (Nothing_refused (refused_in_code room))
+  update_allowed zero s lines at rest behind = refl
+  update_allowed (suc room) s lines at rest behind = refl
+
+  delete_allowed : (room : ℕ) (s : Delete) → MayFollow (canon.delete s) Anything (Nothing_refused (refused_in_code room))
+  delete_allowed zero s lines at rest behind = refl
+  delete_allowed (suc room) s lines at rest behind = refl
+
+  set_allowed : (room : ℕ) (s : SetConstraints) → MayFollow (canon.set_constraints s) Anything (Nothing_refused (refused_in_code room))
+  set_allowed zero s lines at rest behind = refl
+  set_allowed (suc room) s lines at rest behind = refl
+
+  to_left : (room : ℕ) (kinds : List Terminal) (a b : Rule BodyStatement) (s : BodyStatement) → IsPrinted room a s → IsPrinted room (Either kinds a b) s
+  to_left room kinds a b s printed =
+      record { tokens = printed.tokens; is = printed.is; free = left_free kinds a b s printed.tokens Semicolon_next printed.free; allowed = printed.allowed }
+
+  to_right : (room : ℕ) (kinds : List Terminal) (a b : Rule BodyStatement) (s : BodyStatement) → IsPrinted room b s → IsPrinted room (Either kinds a b) s
+  to_right room kinds a b s printed =
+      record { tokens = printed.tokens; is = printed.is; free = right_free kinds a b s printed.tokens Semicolon_next printed.free; allowed = printed.allowed }
+
+  statement_printed : (most room : ℕ) → ((less : ℕ) → AreBlocksFree most less) → (s : BodyStatement) → DerivesBy (DerivesWithin most) (body_statement room) s
+      → statement_depth s ≤ room → IsPrinted room (body_statement room) s
+  unfolding body_statement
+  statement_printed most room free s (inl derived) few = to_left room _ _ _ s (if_in_room most room free s derived few)
+  statement_printed most room free s (inr (inl derived)) few = to_right room _ _ _ s (to_left room _ _ _ s (raise_printed (DerivesWithin most) room s derived))
+  statement_printed most room free s (inr (inr (inl derived))) few =
+      to_right room _ _ _ s (to_right room _ _ _ s (to_left room _ _ _ s (return_printed (DerivesWithin most) room s derived)))
+  statement_printed most room free s (inr (inr (inr (inl derived)))) few =
+      to_right room _ _ _ s (to_right room _ _ _ s (to_right room _ _ _ s (to_left room _ _ _ s
+      (as_printed Insert room bodies.Insert (insert InCode) canon.insert insert_is (insert_allowed room) most (insert_free InCode) s derived))))
+  statement_printed most room free s (inr (inr (inr (inr (inl derived))))) few =
+      to_right room _ _ _ s (to_right room _ _ _ s (to_right room _ _ _ s (to_right room _ _ _ s (to_left room _ _ _ s
+      (as_printed Update room bodies.Update (update InCode) canon.update update_is (update_allowed room) most (update_free InCode) s derived)))))
+  statement_printed most room free s (inr (inr (inr (inr (inr (inl derived)))))) few =
+      to_right room _ _ _ s (to_right room _ _ _ s (to_right room _ _ _ s (to_right room _ _ _ s (to_right room _ _ _ s (to_left room _ _ _ s
+      (as_printed Delete room bodies.Delete (delete InCode) canon.delete delete_is (delete_allowed room) most (delete_free InCode) s derived))))))
+  statement_printed most room free s (inr (inr (inr (inr (inr (inr derived)))))) few =
+      to_right room _ _ _ s (to_right room _ _ _ s (to_right room _ _ _ s (to_right room _ _ _ s (to_right room _ _ _ s (to_right room _ _ _ s
+      (as_printed SetConstraints room bodies.SetConstraints set_constraints canon.set_constraints set_constraints_is (set_allowed room) most
+      (λ s derived. set_constraints_free s Semicolon_next derived) s derived))))))
+
+  statements_printed : (most room : ℕ) → ((less : ℕ) → AreBlocksFree most less) → (xs : List BodyStatement)
+      → DerivesEach (DerivesBy (DerivesWithin most) (body_statement room ◂ sign Semicolon)) xs → block_depth xs ≤ room → ArePrinted room xs
+  statements_printed most room free [] all few = tt
+  statements_printed most room free (s ∷ others) ((own, _, derived, _, e), all) few =
+      let few_in_own : statement_depth own ≤ room = subst (λ (s : BodyStatement). statement_depth s ≤ room) e (omega arith) in
+      (subst (IsPrinted room (body_statement room)) (sym e) (statement_printed most room free own derived few_in_own),
+      statements_printed most room free others all (omega arith))
+
+  blocks_free : (most room : ℕ) → AreBlocksFree most room
+  unfolding rules block
+  blocks_free zero room xs derived few = absurd derived
+  blocks_free (suc most) room xs (own, all, e) few =
+      subst (λ (xs : List BodyStatement). IsFree (block room) xs (canon.block xs) Ends_block) (sym e)
+      (block_free room own (statements_printed most room (λ less. blocks_free most less) own all (subst (λ (xs : List BodyStatement). block_depth xs ≤ room) e few)))
+
+  -- `$$ BEGIN` and `END $$`, with no `;`
+  pub code_free : (xs : List BodyStatement) (Behind : List PlacedLexeme → Type 0) → Derives code xs → block_depth xs ≤ 100
+      → IsFree code xs (Mark DollarQuote ∷ say (codes "BEGIN") ∷ (canon.block xs ++ say (codes "END") ∷ Mark DollarQuote ∷ [])) Behind
+  unfolding code
+  code_free xs Behind (_, a, _, (_, b, _, (c, _, (d, _, (f, _, (own, (most, derived), g), _, e4), _, e3), _, e2), e1), e0) few =
+      let e : xs ≡ own = e0 ∙ (e1 ∙ (e2 ∙ (e3 ∙ (e4 ∙ g)))) in
+      let statements = canon.block own in
+      let inner : Rule (List BodyStatement) = Call (Block 100) (λ statements. statements) in
+      let same : ((statements ++ say (codes "END") ∷ []) ++ []) ++ Mark DollarQuote ∷ [] ≡ statements ++ say (codes "END") ∷ Mark DollarQuote ∷ [] =
+        simp (append-nil, append_assoc) in
+      subst (λ (xs : List BodyStatement). IsFree code xs (Mark DollarQuote ∷ say (codes "BEGIN") ∷ (canon.block xs ++ say (codes "END") ∷ Mark DollarQuote ∷ [])) Behind) (sym e)
+      (behind_mark DollarQuote (word (codes "begin") ▸ (inner ◂ word (codes "end") ◂ optional (Sign Semicolon ∷ []) (sign Semicolon) ◂ sign DollarQuote)) own
+      (say (codes "BEGIN") ∷ (statements ++ say (codes "END") ∷ Mark DollarQuote ∷ [])) Behind
+      (behind_word (codes "BEGIN") (codes "begin") (inner ◂ word (codes "end") ◂ optional (Sign Semicolon ∷ []) (sign Semicolon) ◂ sign DollarQuote) own
+      (statements ++ say (codes "END") ∷ Mark DollarQuote ∷ []) Behind refl refl
+      (subst (λ (tokens : List Written). IsFree (inner ◂ word (codes "end") ◂ optional (Sign Semicolon ∷ []) (sign Semicolon) ◂ sign DollarQuote) own tokens Behind) same
+      (before_free (inner ◂ word (codes "end") ◂ optional (Sign Semicolon ∷ []) (sign Semicolon)) (sign DollarQuote) own tt
+      ((statements ++ say (codes "END") ∷ []) ++ []) (Mark DollarQuote ∷ []) Anything Behind
+      (before_free (inner ◂ word (codes "end")) (optional (Sign Semicolon ∷ []) (sign Semicolon)) own None (statements ++ say (codes "END") ∷ []) [] Anything Anything
+      (before_free inner (word (codes "end")) own tt statements (say (codes "END") ∷ []) Ends_block Anything
+      (called_free (Block 100) (λ statements. statements) own statements Ends_block
+      (blocks_free most 100 own derived (subst (λ (xs : List BodyStatement). block_depth xs ≤ 100) e few)))
+      (word_free (codes "END") (codes "end") Anything refl refl) (λ lines at rest behind. refl))
+      (none_free (Sign Semicolon ∷ []) (sign Semicolon) Anything) (λ lines at rest behind. tt))
+      (mark_free DollarQuote Behind) (λ lines at rest behind. tt)))))
