@@ -7,6 +7,7 @@ pub mod Names
 pub mod BodyForms
 pub mod Depths
 pub mod Bodies
+pub mod Functions
 pub mod Reading
 pub mod Deriving
 pub mod Expressions
