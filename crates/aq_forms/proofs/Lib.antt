@@ -8,6 +8,7 @@ pub mod BodyForms
 pub mod Depths
 pub mod Bodies
 pub mod Functions
+pub mod Events
 pub mod Reading
 pub mod Deriving
 pub mod Expressions
