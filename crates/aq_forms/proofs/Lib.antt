@@ -9,6 +9,7 @@ pub mod Depths
 pub mod Bodies
 pub mod Functions
 pub mod Events
+pub mod TransitionTables
 pub mod Reading
 pub mod Deriving
 pub mod Expressions
