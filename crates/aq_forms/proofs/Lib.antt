@@ -10,6 +10,7 @@ pub mod Bodies
 pub mod Functions
 pub mod Events
 pub mod TransitionTables
+pub mod Triggers
 pub mod Reading
 pub mod Deriving
 pub mod Expressions
