@@ -10,8 +10,8 @@ use Rattle.aq_base.specs.declared.data.Insert.{Insert as InsertStatement}
 use Rattle.aq_base.specs.declared.data.Update.{Update as UpdateStatement}
 use Rattle.aq_base.specs.declared.data.Delete.{Delete as DeleteStatement}
 use Rattle.aq_base.specs.declared.modes.SetConstraints.{SetConstraints as SetStatement}
-use Rattle.aq_texts.specs.Written.{Written, say, Literal, Mark}
-use Rattle.aq_texts.specs.Canon.{returned, else_if_step, body_step, body_statement, block, ended, expression, perhaps, insert, update, delete, set_constraints}
+use Rattle.aq_texts.specs.Written.{Written, say, Literal}
+use Rattle.aq_texts.specs.Canon.{returned, else_if_step, body_step, body_statement, block, expression, perhaps, insert, update, delete, set_constraints}
 
 pub raise_is : (text : Text) → body_statement (Raise text) ≡ say (codes "RAISE") ∷ say (codes "EXCEPTION") ∷ Literal text ∷ []
 raise_is text = ap body_statement (sym (rolls-Raise text)) ∙ fold-roll-BodyStatement (List Written) (List Written) body_step else_if_step _

@@ -1,30 +1,21 @@
 -- What a trigger watches and where it fires: the parts of CREATE TRIGGER with no expression in them are printed freely.
-use Rattle.std.proofs.Common.{◌≡◌, true, not, List, [], ◌∷◌, ◌++◌, map, flat_map, Option, Some, None, inl, inr, refl, sym, ap, ◌∙◌, subst, codes}
+use Rattle.std.proofs.Common.{◌≡◌, List, [], ◌∷◌, ◌++◌, flat_map, Option, Some, inl, inr, refl, sym, ap, ◌∙◌, subst, codes}
 use Rattle.std.proofs.lemmas.List.{append-nil}
-use Rattle.std.specs.Char.{to_ascii_lowercase}
-use Rattle.aq_base.specs.Names.{Text as Bytes, same_text}
+use Rattle.aq_base.specs.Names.{Text as Bytes}
 use Rattle.aq_base.specs.declared.trigger.TriggerEvent.{TriggerEvent}
 use Rattle.aq_base.specs.declared.trigger.TriggerEvent.TheVariants.{Insert, Delete, Update}
-use Rattle.aq_base.specs.declared.trigger.Transition.{Transition}
-use Rattle.aq_base.specs.declared.trigger.Transition.TheVariants.{Old, New}
-use Rattle.aq_base.specs.declared.trigger.TransitionTable.{TransitionTable}
-use Rattle.aq_base.specs.declared.trigger.Each.{Each}
-use Rattle.aq_base.specs.declared.trigger.Each.TheVariants.{Row, Statement}
-use Rattle.aq_lex.specs.declared.token.Symbol.TheVariants.{CloseParen, Comma}
+use Rattle.aq_lex.specs.declared.token.Symbol.TheVariants.{Comma}
 use Rattle.aq_lex.specs.Lexemes.{PlacedLexeme}
-use Rattle.aq_grammar.specs.Terminals.{Terminal, Keyword, NameBut, text_of}
-use Rattle.aq_grammar.specs.Rules.{Rule, Done, Token, Both, Either, Differing}
-use Rattle.aq_grammar.specs.Forms.{word, sign, ◌▸◌, ◌◂◌, mapped, says, optional, name, names, public_name}
-use Rattle.aq_grammar.specs.Triggers.{no_arguments, insert_event, delete_event, update_event, one_event, with_events, last_event, more_events, events, table_as, transitions_of, transition_tables, referencing, for_each, fires_for, executes, not_after, Watched, watched}
-use Rattle.aq_texts.specs.Written.{Written, Said, say, Name, Mark, Call, separated, listed as listed_tokens}
+use Rattle.aq_grammar.specs.Terminals.{Keyword}
+use Rattle.aq_grammar.specs.Rules.{Rule, Done, Both, Either}
+use Rattle.aq_grammar.specs.Forms.{word, sign, ◌▸◌, mapped, optional, name, names, public_name}
+use Rattle.aq_grammar.specs.Triggers.{insert_event, delete_event, update_event, one_event, with_events, last_event, more_events, events, not_after, Watched, watched}
+use Rattle.aq_texts.specs.Written.{Written, say, Name, separated, listed as listed_tokens}
 use Rattle.aq_texts.specs.Canon as canon
 use Rattle.aq_texts.specs.Canon.{perhaps}
-use Rattle.aq_forms.proofs.Sound.{is_folded_word}
-use Rattle.aq_forms.proofs.Laid.{laid, past, laid_append}
 use Rattle.aq_forms.proofs.Derived.{DerivesEach, DerivesSome, Derives}
-use Rattle.aq_forms.proofs.Combining.{IsFree, Anything, AreFree, done_free, token_free, says_free, word_free, both_any, then_free, behind_word, before_free, mapped_free, left_free, right_free, some_free, none_free, unless_free, listed_any}
-use Rattle.aq_forms.proofs.Names.{IsNamed, name_named, name_free, name_fits, name_sound, name_text_is, derived_name, public_named, public_free}
-use Rattle.aq_forms.proofs.Functions.{no_arguments_free}
+use Rattle.aq_forms.proofs.Combining.{IsFree, Anything, AreFree, done_free, says_free, both_any, behind_word, mapped_free, left_free, right_free, some_free, none_free, unless_free, listed_any}
+use Rattle.aq_forms.proofs.Names.{IsNamed, name_named, name_free, public_named, public_free}
 
 -- ---- names
 

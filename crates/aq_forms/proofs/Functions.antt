@@ -1,21 +1,19 @@
 -- CREATE FUNCTION is printed as tokens that are read as the same function.
-use Rattle.std.proofs.Common.{◌≡◌, ◌≤◌, List, [], ◌∷◌, ◌++◌, Option, Some, None, inl, inr, refl, sym, ap, ◌∙◌, subst, codes, append_assoc}
-use Rattle.std.proofs.lemmas.List.{append-nil}
+use Rattle.std.proofs.Common.{◌≡◌, ◌≤◌, List, [], ◌∷◌, ◌++◌, inl, inr, refl, sym, ap, ◌∙◌, subst, codes}
 use Rattle.aq_base.specs.Names.{Text as Bytes}
 use Rattle.aq_base.specs.declared.body.BodyStatement.{BodyStatement}
 use Rattle.aq_base.specs.declared.statement.Statement.{Statement}
 use Rattle.aq_base.specs.declared.statement.Statement.TheVariants.{CreateFunction}
-use Rattle.aq_base.specs.declared.trigger.CreateFunction.{CreateFunction as Function}
 use Rattle.aq_lex.specs.declared.token.Symbol.TheVariants.{OpenParen, CloseParen, DollarQuote}
 use Rattle.aq_lex.specs.Lexemes.{PlacedLexeme}
 use Rattle.aq_grammar.specs.Terminals.{Keyword}
-use Rattle.aq_grammar.specs.Rules.{Nonterminal, ValueOf, Rule, Both, Either}
+use Rattle.aq_grammar.specs.Rules.{Rule, Both, Either}
 use Rattle.aq_grammar.specs.Forms.{word, sign, ◌▸◌, ◌◂◌, public_name}
 use Rattle.aq_grammar.specs.Bodies.{code}
 use Rattle.aq_grammar.specs.Triggers.{no_arguments, language, create_function}
 use Rattle.aq_texts.specs.Written.{Written, Said, say, Name, Mark, Call}
 use Rattle.aq_texts.specs.Canon as canon
-use Rattle.aq_forms.proofs.Derived.{Trees, DerivesBy, DerivesSome, Derives}
+use Rattle.aq_forms.proofs.Derived.{DerivesSome, Derives}
 use Rattle.aq_forms.proofs.Combining.{IsFree, Anything, word_free, mark_free, call_free, both_any, then_free, behind_word, before_free, left_free}
 use Rattle.aq_forms.proofs.Names.{IsNamed, public_named, public_free}
 use Rattle.aq_forms.proofs.Depths.{block_depth, HasRoom}
@@ -84,26 +82,26 @@ module _
     (calls_free : CallsFree) (derives_so_many : DerivesSoMany) (expression_free : ExpressionsFree) (insert_free : InsertsFree) (update_free : UpdatesFree)
     (delete_free : DeletesFree) (set_constraints_free : SetsFree)
   where
-  function_free : (name : Bytes) (body : List BodyStatement) (Behind : List PlacedLexeme → Type 0) → IsNamed name → Derives code body → block_depth body ≤ 100
-      → IsFree create_function (function_of name body)
-      (say (codes "FUNCTION") ∷ (heading_tokens name ++ say (codes "LANGUAGE") ∷ say (codes "plpgsql") ∷ say (codes "AS") ∷ code_tokens body)) Behind
-  unfolding create_function function_of heading written_code code_tokens
-  function_free name body Behind named derived few =
-      behind_word (codes "FUNCTION") (codes "function") (Both function_of heading written_code) (function_of name body)
-      (heading_tokens name ++ say (codes "LANGUAGE") ∷ say (codes "plpgsql") ∷ say (codes "AS") ∷ code_tokens body) Behind refl refl
-      (both_any function_of heading written_code name body (heading_tokens name)
-      (say (codes "LANGUAGE") ∷ say (codes "plpgsql") ∷ say (codes "AS") ∷ code_tokens body) Behind (heading_free name named)
-      (written_code_free body Behind
-      (code_free calls_free derives_so_many expression_free insert_free update_free delete_free set_constraints_free body Behind derived few)))
+    function_free : (name : Bytes) (body : List BodyStatement) (Behind : List PlacedLexeme → Type 0) → IsNamed name → Derives code body → block_depth body ≤ 100
+        → IsFree create_function (function_of name body)
+        (say (codes "FUNCTION") ∷ (heading_tokens name ++ say (codes "LANGUAGE") ∷ say (codes "plpgsql") ∷ say (codes "AS") ∷ code_tokens body)) Behind
+    unfolding create_function function_of heading written_code code_tokens
+    function_free name body Behind named derived few =
+        behind_word (codes "FUNCTION") (codes "function") (Both function_of heading written_code) (function_of name body)
+        (heading_tokens name ++ say (codes "LANGUAGE") ∷ say (codes "plpgsql") ∷ say (codes "AS") ∷ code_tokens body) Behind refl refl
+        (both_any function_of heading written_code name body (heading_tokens name)
+        (say (codes "LANGUAGE") ∷ say (codes "plpgsql") ∷ say (codes "AS") ∷ code_tokens body) Behind (heading_free name named)
+        (written_code_free body Behind
+        (code_free calls_free derives_so_many expression_free insert_free update_free delete_free set_constraints_free body Behind derived few)))
 
-  pub create_function_free : (s : Statement) (Behind : List PlacedLexeme → Type 0) → Derives create_function s → HasRoom s → IsCreated create_function s Behind
-  unfolding create_function function_of heading heading_tokens written_code code_tokens
-  create_function_free s Behind (_, inner, _, (name, body, name_derived, body_derived, b), a) few =
-      let e : s ≡ function_of name body = a ∙ b in
-      let tokens = say (codes "FUNCTION") ∷ (heading_tokens name ++ say (codes "LANGUAGE") ∷ say (codes "plpgsql") ∷ say (codes "AS") ∷ code_tokens body) in
-      record {
-        tokens = tokens;
-        is = ap canon.statement e;
-        free = subst (λ (s : Statement). IsFree create_function s tokens Behind) (sym e)
-          (function_free name body Behind (heading_named name name_derived) (written_code_derived body body_derived) (subst HasRoom e few));
-      }
+    pub create_function_free : (s : Statement) (Behind : List PlacedLexeme → Type 0) → Derives create_function s → HasRoom s → IsCreated create_function s Behind
+    unfolding create_function function_of heading heading_tokens written_code code_tokens
+    create_function_free s Behind (_, inner, _, (name, body, name_derived, body_derived, b), a) few =
+        let e : s ≡ function_of name body = a ∙ b in
+        let tokens = say (codes "FUNCTION") ∷ (heading_tokens name ++ say (codes "LANGUAGE") ∷ say (codes "plpgsql") ∷ say (codes "AS") ∷ code_tokens body) in
+        record {
+          tokens = tokens;
+          is = ap canon.statement e;
+          free = subst (λ (s : Statement). IsFree create_function s tokens Behind) (sym e)
+              (function_free name body Behind (heading_named name name_derived) (written_code_derived body body_derived) (subst HasRoom e few));
+        }

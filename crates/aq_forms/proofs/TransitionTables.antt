@@ -36,9 +36,16 @@ differing_free :
     {A B C : Type 0} (f : A → Option Bytes → C) (a : Rule A) (name_of : A → Bytes) (kinds : List Terminal) (b : Rule B) (x : A) (text : Bytes) (ws vs : List Written)
     (Behind : List PlacedLexeme → Type 0) → IsFree a x ws Anything → IsFree (other_name b (name_of x)) (Some text) vs Behind
     → IsFree (Differing f a name_of kinds b) (f x (Some text)) (ws ++ vs) Behind
-differing_free f a name_of kinds b x text ws vs Behind free other lines at rest behind =
-    (laid lines at ws, laid lines (past at ws) vs, x, Some text, free lines at (laid lines (past at ws) vs ++ rest) tt, inr (other lines (past at ws) rest behind),
-    laid_append lines at ws vs, refl)
+differing_free f a name_of kinds b x text ws vs Behind free other lines at rest behind = (
+  laid lines at ws,
+  laid lines (past at ws) vs,
+  x,
+  Some text,
+  free lines at (laid lines (past at ws) vs ++ rest) tt,
+  inr (other lines (past at ws) rest behind),
+  laid_append lines at ws vs,
+  refl,
+)
 
 -- ---- the old and the new table
 

@@ -1,5 +1,5 @@
 -- CREATE TRIGGER and CREATE CONSTRAINT TRIGGER are printed as tokens that are read as the same trigger.
-use Rattle.std.proofs.Common.{◌≡◌, List, [], ◌∷◌, ◌++◌, Option, Some, None, inl, inr, refl, sym, ap, ◌∙◌, subst, codes}
+use Rattle.std.proofs.Common.{◌≡◌, List, [], ◌∷◌, ◌++◌, Option, Some, inl, inr, refl, sym, ap, ◌∙◌, subst, codes}
 use Rattle.aq_base.specs.Names.{Text as Bytes}
 use Rattle.aq_base.specs.declared.catalog.Decl.{Decl}
 use Rattle.aq_base.specs.declared.expr.Expr.{Expr}
@@ -7,20 +7,20 @@ use Rattle.aq_base.specs.declared.statement.Statement.{Statement}
 use Rattle.aq_base.specs.declared.trigger.TransitionTable.{TransitionTable}
 use Rattle.aq_base.specs.declared.trigger.Each.{Each}
 use Rattle.aq_base.specs.declared.trigger.Each.TheVariants as each
-use Rattle.aq_lex.specs.declared.token.Symbol.TheVariants.{OpenParen, CloseParen}
+use Rattle.aq_lex.specs.declared.token.Symbol.TheVariants.{CloseParen}
 use Rattle.aq_lex.specs.Lexemes.{PlacedLexeme}
 use Rattle.aq_grammar.specs.declared.scope.Scope.TheVariants.{InCondition}
 use Rattle.aq_grammar.specs.Terminals.{Keyword}
 use Rattle.aq_grammar.specs.Rules.{Rule, Done, Both, Either}
-use Rattle.aq_grammar.specs.Forms.{word, sign, ◌▸◌, ◌◂◌, says, optional, in_parentheses, name, public_name}
+use Rattle.aq_grammar.specs.Forms.{word, ◌▸◌, ◌◂◌, says, optional, in_parentheses, name, public_name}
 use Rattle.aq_grammar.specs.Expressions.{whole_expression}
 use Rattle.aq_grammar.specs.Tables.{timing_without}
 use Rattle.aq_grammar.specs.Triggers.{no_arguments, Watched, watched, referencing, for_each, fires_for, when_part, executes, Fired, fired, trigger_of, create_trigger, constraint_trigger_of, create_constraint_trigger}
-use Rattle.aq_texts.specs.Written.{Written, Said, say, Name, Mark, Call, in_parentheses as in_parentheses_tokens}
+use Rattle.aq_texts.specs.Written.{Written, say, Name, Mark, Call, in_parentheses as in_parentheses_tokens}
 use Rattle.aq_texts.specs.Canon as canon
 use Rattle.aq_texts.specs.Canon.{perhaps}
 use Rattle.aq_forms.proofs.Derived.{DerivesSome, Derives}
-use Rattle.aq_forms.proofs.Combining.{IsFree, Anything, done_free, says_free, word_free, both_any, then_free, behind_word, before_free, left_free, right_free, some_free, none_free, parentheses_any}
+use Rattle.aq_forms.proofs.Combining.{IsFree, Anything, says_free, word_free, both_any, then_free, behind_word, before_free, left_free, right_free, some_free, none_free, parentheses_any}
 use Rattle.aq_forms.proofs.Names.{IsNamed, name_named, name_free, public_named, public_free}
 use Rattle.aq_forms.proofs.Bodies.{ExpressionsFree}
 use Rattle.aq_forms.proofs.Functions.{IsCreated, no_arguments_free}
@@ -144,11 +144,11 @@ module _ (expression_free : ExpressionsFree) (timing_free : TimingsFree) where
         tokens = tokens;
         is = ap canon.statement whole;
         free = subst (λ (s : Statement). IsFree create_trigger s tokens Behind) (sym whole)
-          (behind_word (codes "TRIGGER") (codes "trigger") (Both trigger_of name trigger) (trigger_of named (found, (transitions, (each, action))))
-          (Name named ∷ trigger_tokens found transitions each action) Behind refl refl
-          (both_any trigger_of name trigger named (found, (transitions, (each, action))) (Name named ∷ []) (trigger_tokens found transitions each action) Behind
-          (name_free named Anything (name_named DerivesSome named name_derived))
-          (trigger_free found transitions each action Behind found_derived transitions_derived action_derived)));
+            (behind_word (codes "TRIGGER") (codes "trigger") (Both trigger_of name trigger) (trigger_of named (found, (transitions, (each, action))))
+            (Name named ∷ trigger_tokens found transitions each action) Behind refl refl
+            (both_any trigger_of name trigger named (found, (transitions, (each, action))) (Name named ∷ []) (trigger_tokens found transitions each action) Behind
+            (name_free named Anything (name_named DerivesSome named name_derived))
+            (trigger_free found transitions each action Behind found_derived transitions_derived action_derived)));
       }
 
   constraint_free : (found : Watched) (timing : Decl) (action : Fired) (Behind : List PlacedLexeme → Type 0) → Derives watched found → Derives (timing_without []) timing
@@ -174,11 +174,11 @@ module _ (expression_free : ExpressionsFree) (timing_free : TimingsFree) where
         tokens = tokens;
         is = ap canon.statement whole;
         free = subst (λ (s : Statement). IsFree create_constraint_trigger s tokens Behind) (sym whole)
-          (behind_word (codes "CONSTRAINT") (codes "constraint") (word (codes "trigger") ▸ Both constraint_trigger_of name constraint_trigger)
-          (constraint_trigger_of named (found, (timing, own))) (say (codes "TRIGGER") ∷ Name named ∷ constraint_tokens found timing own) Behind refl refl
-          (behind_word (codes "TRIGGER") (codes "trigger") (Both constraint_trigger_of name constraint_trigger) (constraint_trigger_of named (found, (timing, own)))
-          (Name named ∷ constraint_tokens found timing own) Behind refl refl
-          (both_any constraint_trigger_of name constraint_trigger named (found, (timing, own)) (Name named ∷ []) (constraint_tokens found timing own) Behind
-          (name_free named Anything (name_named DerivesSome named name_derived))
-          (constraint_free found timing own Behind found_derived timing_derived action_derived))));
+            (behind_word (codes "CONSTRAINT") (codes "constraint") (word (codes "trigger") ▸ Both constraint_trigger_of name constraint_trigger)
+            (constraint_trigger_of named (found, (timing, own))) (say (codes "TRIGGER") ∷ Name named ∷ constraint_tokens found timing own) Behind refl refl
+            (behind_word (codes "TRIGGER") (codes "trigger") (Both constraint_trigger_of name constraint_trigger) (constraint_trigger_of named (found, (timing, own)))
+            (Name named ∷ constraint_tokens found timing own) Behind refl refl
+            (both_any constraint_trigger_of name constraint_trigger named (found, (timing, own)) (Name named ∷ []) (constraint_tokens found timing own) Behind
+            (name_free named Anything (name_named DerivesSome named name_derived))
+            (constraint_free found timing own Behind found_derived timing_derived action_derived))));
       }
