@@ -43,9 +43,15 @@ pub enum TraceLine {
         isolation: Isolation,
     },
     /// A query level opened.
-    Open { session: TextVal, level: u64 },
+    Open {
+        session: TextVal,
+        level: u64,
+    },
     /// A query level closed.
-    Close { session: TextVal, level: u64 },
+    Close {
+        session: TextVal,
+        level: u64,
+    },
     /// A row of a table changed, and these events were queued. A row that was or is not there is `None`.
     Change {
         session: TextVal,
@@ -56,7 +62,10 @@ pub enum TraceLine {
         events: List<TraceEvent>,
     },
     /// A statement event was replaced.
-    Dropped { session: TextVal, event: u64 },
+    Dropped {
+        session: TextVal,
+        event: u64,
+    },
     /// A statement event was queued.
     Queue {
         session: TextVal,
@@ -64,9 +73,14 @@ pub enum TraceLine {
         trigger: TextVal,
     },
     /// A round with at least one event was taken.
-    Round { session: TextVal },
+    Round {
+        session: TextVal,
+    },
     /// An event fired.
-    Fire { session: TextVal, event: u64 },
+    Fire {
+        session: TextVal,
+        event: u64,
+    },
     /// An event ended.
     Done {
         session: TextVal,
@@ -80,11 +94,20 @@ pub enum TraceLine {
         mode: ConstraintMode,
     },
     /// A savepoint was made.
-    Savepoint { session: TextVal, name: TextVal },
+    Savepoint {
+        session: TextVal,
+        name: TextVal,
+    },
     /// A savepoint was released.
-    Release { session: TextVal, name: TextVal },
+    Release {
+        session: TextVal,
+        name: TextVal,
+    },
     /// The state at a savepoint was put back.
-    Back { session: TextVal, name: TextVal },
+    Back {
+        session: TextVal,
+        name: TextVal,
+    },
     /// A wait for these sessions began.
     Wait {
         session: TextVal,
@@ -108,15 +131,30 @@ pub enum TraceLine {
         child: u64,
     },
     /// A step ended in an error.
-    Fail { session: TextVal, code: Code },
+    Fail {
+        session: TextVal,
+        code: Code,
+    },
     /// The deferred events of a transaction begin to fire.
-    Drain { session: TextVal },
+    Drain {
+        session: TextVal,
+    },
     /// A transaction committed the database with this number.
-    Commit { session: TextVal, database: u64 },
+    Commit {
+        session: TextVal,
+        database: u64,
+    },
     /// A transaction was rolled back.
-    Abort { session: TextVal },
+    Abort {
+        session: TextVal,
+    },
     /// A statement has its reply.
-    Reply { session: TextVal, statement: u64 },
+    Reply {
+        session: TextVal,
+        statement: u64,
+    },
     /// A session has ended.
-    End { session: TextVal },
+    End {
+        session: TextVal,
+    },
 }

@@ -94,9 +94,16 @@ call_free Behind = symbol_free OpenParen Call tt Behind refl
 pub both_free :
     {A B C : Type 0} (f : A → B → C) (a : Rule A) (b : Rule B) (x : A) (y : B) (ws vs : List Written) (First Behind : List PlacedLexeme → Type 0)
     → IsFree a x ws First → IsFree b y vs Behind → MayFollow vs Behind First → IsFree (Both f a b) (f x y) (ws ++ vs) Behind
-both_free f a b x y ws vs First Behind first second follows lines at rest behind =
-    (laid lines at ws, laid lines (past at ws) vs, x, y, first lines at (laid lines (past at ws) vs ++ rest) (follows lines (past at ws) rest behind),
-    second lines (past at ws) rest behind, laid_append lines at ws vs, refl)
+both_free f a b x y ws vs First Behind first second follows lines at rest behind = (
+  laid lines at ws,
+  laid lines (past at ws) vs,
+  x,
+  y,
+  first lines at (laid lines (past at ws) vs ++ rest) (follows lines (past at ws) rest behind),
+  second lines (past at ws) rest behind,
+  laid_append lines at ws vs,
+  refl,
+)
 
 -- the same where anything may come behind the first
 pub both_any :
@@ -179,10 +186,14 @@ each_free :
     {A : Type 0} (a : Rule A) (print : A → List Written) (xs : List A) → AreFree a print Anything xs → (lines : ℕ → ℕ) (at : ℕ) (rest : List PlacedLexeme)
     → FreeEach [] (Free a) xs (laid lines at (flat_map print xs)) rest
 each_free a print [] all lines at rest = (refl, refl)
-each_free a print (x ∷ others) all lines at rest =
-    (laid lines at (print x), laid lines (past at (print x)) (flat_map print others), refl,
-    all.0 lines at (laid lines (past at (print x)) (flat_map print others) ++ rest) tt, each_free a print others all.1 lines (past at (print x)) rest,
-    laid_append lines at (print x) (flat_map print others))
+each_free a print (x ∷ others) all lines at rest = (
+  laid lines at (print x),
+  laid lines (past at (print x)) (flat_map print others),
+  refl,
+  all.0 lines at (laid lines (past at (print x)) (flat_map print others) ++ rest) tt,
+  each_free a print others all.1 lines (past at (print x)) rest,
+  laid_append lines at (print x) (flat_map print others),
+)
 
 -- any number of them, behind each of which anything may come
 pub many_free :
@@ -215,11 +226,15 @@ others_free :
     → FreeEach [] (Free (sign Comma ▸ a)) others (laid lines at (flat_map (with_comma print) others)) rest
 others_free a print [] First Behind comma less all lines at rest behind = (refl, refl)
 others_free a print (x ∷ others) First Behind comma less all lines at rest behind =
-    let after = past at (with_comma print x) in
-    (laid lines at (with_comma print x), laid lines after (flat_map (with_comma print) others), refl,
-    behind_mark Comma a x (print x) First all.0 lines at (laid lines after (flat_map (with_comma print) others) ++ rest)
-    (commas_follow print others First Behind comma less lines after rest behind),
-    others_free a print others First Behind comma less all.1 lines after rest behind, laid_append lines at (with_comma print x) (flat_map (with_comma print) others))
+    let after = past at (with_comma print x) in (
+      laid lines at (with_comma print x),
+      laid lines after (flat_map (with_comma print) others),
+      refl,
+      behind_mark Comma a x (print x) First all.0 lines at (laid lines after (flat_map (with_comma print) others) ++ rest)
+          (commas_follow print others First Behind comma less lines after rest behind),
+      others_free a print others First Behind comma less all.1 lines after rest behind,
+      laid_append lines at (with_comma print x) (flat_map (with_comma print) others),
+    )
 
 pub listed_free :
     {A : Type 0} (a : Rule A) (print : A → List Written) (x : A) (others : List A) (First Behind : List PlacedLexeme → Type 0) → ComesBeforeComma First

@@ -1,0 +1,5 @@
+pub mod Outcomes
+pub mod Repeated
+pub mod Statements
+pub mod Sessions
+pub mod Schedules
