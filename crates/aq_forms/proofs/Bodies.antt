@@ -32,6 +32,9 @@ use Rattle.aq_forms.proofs.Laid.{laid, past, laid_append}
 use Rattle.aq_forms.proofs.Derived.{Trees, DerivesEach, DerivesBy, DerivesWithin, Derives}
 use Rattle.aq_forms.proofs.Free.{FreeEach, Free}
 use Rattle.aq_forms.proofs.Combining.{IsFree, Anything, Semicolon_next, Nothing_refused, MayFollow, AreFree, token_free, says_free, word_free, mark_free, both_free, both_any, behind_word, behind_mark, before_free, mapped_free, left_free, right_free, some_free, none_free}
+use Rattle.aq_forms.proofs.Reading.{called_free}
+use Rattle.aq_forms.proofs.Deriving.{derives_within}
+use Rattle.aq_forms.proofs.Changes.{insert_free, update_free, delete_free, set_constraints_free}
 use Rattle.aq_forms.proofs.BodyForms.{raise_is, return_is, insert_is, update_is, delete_is, set_constraints_is, if_is, if_tokens, else_if_tokens, else_tokens}
 use Rattle.aq_forms.proofs.Depths.{statement_depth, block_depth, branches_depth, perhaps_deep, if_depth}
 
@@ -246,41 +249,10 @@ if_is_deep calls room s (said, inner, _, (condition, (first, (others, last)), _,
 abbrev AreBlocksFree : ℕ → ℕ → Type 0
 AreBlocksFree most room = (xs : List BodyStatement) → DerivesWithin most (Block room) xs → block_depth xs ≤ room → IsFree (rules (Block room)) xs (canon.block xs) Ends_block
 
-abbrev pub CallsFree : Type 1
-CallsFree =
-    (B : Type 0) (n : Nonterminal) (f : ValueOf n → B) (x : ValueOf n) (ws : List Written) (Behind : List PlacedLexeme → Type 0) → IsFree (rules n) x ws Behind
-    → IsFree (Call n f) (f x) ws Behind
-
-abbrev pub DerivesSoMany : Type 1
-DerivesSoMany = (A : Type 0) (most : ℕ) (r : Rule A) (x : A) → DerivesBy (DerivesWithin most) r x → Derives r x
-
-abbrev pub ExpressionsFree : Type 1
-ExpressionsFree = (scope : Scope) (e : Expr) (Behind : List PlacedLexeme → Type 0) → Derives (whole_expression scope) e → IsFree (whole_expression scope) e (canon.expression e) Behind
-
-abbrev pub InsertsFree : Type 0
-InsertsFree = (scope : Scope) (s : Insert) → Derives (insert scope) s → IsFree (insert scope) s (canon.insert s) Semicolon_next
-
-abbrev pub UpdatesFree : Type 0
-UpdatesFree = (scope : Scope) (s : Update) → Derives (update scope) s → IsFree (update scope) s (canon.update s) Semicolon_next
-
-abbrev pub DeletesFree : Type 0
-DeletesFree = (scope : Scope) (s : Delete) → Derives (delete scope) s → IsFree (delete scope) s (canon.delete s) Semicolon_next
-
-abbrev pub SetsFree : Type 1
-SetsFree = (s : SetConstraints) (Behind : List PlacedLexeme → Type 0) → Derives set_constraints s → IsFree set_constraints s (canon.set_constraints s) Behind
-
 module _
-    (calls_free : CallsFree) (derives_so_many : DerivesSoMany) (expression_free : ExpressionsFree) (insert_free : InsertsFree) (update_free : UpdatesFree)
-    (delete_free : DeletesFree) (set_constraints_free : SetsFree)
+    (expression_free :
+    (scope : Scope) (e : Expr) (Behind : List PlacedLexeme → Type 0) → Derives (whole_expression scope) e → IsFree (whole_expression scope) e (canon.expression e) Behind)
   where
-    called_free :
-        {B : Type 0} (n : Nonterminal) (f : ValueOf n → B) (x : ValueOf n) (ws : List Written) (Behind : List PlacedLexeme → Type 0) → IsFree (rules n) x ws Behind
-        → IsFree (Call n f) (f x) ws Behind
-    called_free {B} n f x ws Behind free = calls_free B n f x ws Behind free
-
-    derives_within : {A : Type 0} (most : ℕ) (r : Rule A) (x : A) → DerivesBy (DerivesWithin most) r x → Derives r x
-    derives_within {A} most r x derived = derives_so_many A most r x derived
-
     inner_free : (most room : ℕ) → AreBlocksFree most room → (xs : List BodyStatement) → DerivesBy (DerivesWithin most) (inner_block (suc room)) xs → block_depth xs ≤ room
         → IsFree (inner_block (suc room)) xs (canon.block xs) Ends_block
     inner_free most room free xs (own, derived, e) few =
@@ -436,17 +408,17 @@ module _
         to_right room _ _ _ s (to_right room _ _ _ s (to_left room _ _ _ s (return_printed (DerivesWithin most) room s derived)))
     statement_printed most room free s (inr (inr (inr (inl derived)))) few =
         to_right room _ _ _ s (to_right room _ _ _ s (to_right room _ _ _ s (to_left room _ _ _ s
-        (as_printed Insert room bodies.Insert (insert InCode) canon.insert insert_is (insert_allowed room) most (insert_free InCode) s derived))))
+        (as_printed Insert room bodies.Insert (insert InCode) canon.insert insert_is (insert_allowed room) most (insert_free expression_free InCode) s derived))))
     statement_printed most room free s (inr (inr (inr (inr (inl derived))))) few =
         to_right room _ _ _ s (to_right room _ _ _ s (to_right room _ _ _ s (to_right room _ _ _ s (to_left room _ _ _ s
-        (as_printed Update room bodies.Update (update InCode) canon.update update_is (update_allowed room) most (update_free InCode) s derived)))))
+        (as_printed Update room bodies.Update (update InCode) canon.update update_is (update_allowed room) most (update_free expression_free InCode) s derived)))))
     statement_printed most room free s (inr (inr (inr (inr (inr (inl derived)))))) few =
         to_right room _ _ _ s (to_right room _ _ _ s (to_right room _ _ _ s (to_right room _ _ _ s (to_right room _ _ _ s (to_left room _ _ _ s
-        (as_printed Delete room bodies.Delete (delete InCode) canon.delete delete_is (delete_allowed room) most (delete_free InCode) s derived))))))
+        (as_printed Delete room bodies.Delete (delete InCode) canon.delete delete_is (delete_allowed room) most (delete_free expression_free InCode) s derived))))))
     statement_printed most room free s (inr (inr (inr (inr (inr (inr derived)))))) few =
         to_right room _ _ _ s (to_right room _ _ _ s (to_right room _ _ _ s (to_right room _ _ _ s (to_right room _ _ _ s (to_right room _ _ _ s
         (as_printed SetConstraints room bodies.SetConstraints set_constraints canon.set_constraints set_constraints_is (set_allowed room) most
-        (λ s derived. set_constraints_free s Semicolon_next derived) s derived))))))
+        (set_constraints_free Semicolon_next) s derived))))))
 
     statements_printed : (most room : ℕ) → ((less : ℕ) → AreBlocksFree most less) → (xs : List BodyStatement)
         → DerivesEach (DerivesBy (DerivesWithin most) (body_statement room ◂ sign Semicolon)) xs → block_depth xs ≤ room → ArePrinted room xs

@@ -4,34 +4,18 @@ use Rattle.std.proofs.lemmas.List.{append-nil}
 use Rattle.aq_base.specs.Names.{Text as Bytes}
 use Rattle.aq_base.specs.declared.trigger.TriggerEvent.{TriggerEvent}
 use Rattle.aq_base.specs.declared.trigger.TriggerEvent.TheVariants.{Insert, Delete, Update}
-use Rattle.aq_lex.specs.declared.token.Symbol.TheVariants.{Comma}
 use Rattle.aq_lex.specs.Lexemes.{PlacedLexeme}
 use Rattle.aq_grammar.specs.Terminals.{Keyword}
 use Rattle.aq_grammar.specs.Rules.{Rule, Done, Both, Either}
-use Rattle.aq_grammar.specs.Forms.{word, sign, ◌▸◌, mapped, optional, name, names, public_name}
+use Rattle.aq_grammar.specs.Forms.{word, ◌▸◌, mapped, optional, names, public_name}
 use Rattle.aq_grammar.specs.Triggers.{insert_event, delete_event, update_event, one_event, with_events, last_event, more_events, events, not_after, Watched, watched}
-use Rattle.aq_texts.specs.Written.{Written, say, Name, separated, listed as listed_tokens}
+use Rattle.aq_texts.specs.Written.{Written, say, Name, separated, names as names_tokens}
 use Rattle.aq_texts.specs.Canon as canon
 use Rattle.aq_texts.specs.Canon.{perhaps}
-use Rattle.aq_forms.proofs.Derived.{DerivesEach, DerivesSome, Derives}
-use Rattle.aq_forms.proofs.Combining.{IsFree, Anything, AreFree, done_free, says_free, both_any, behind_word, mapped_free, left_free, right_free, some_free, none_free, unless_free, listed_any}
-use Rattle.aq_forms.proofs.Names.{IsNamed, name_named, name_free, public_named, public_free}
-
--- ---- names
-
-abbrev name_tokens : Bytes → List Written
-name_tokens text = Name text ∷ []
-
-others_named : (others : List Bytes) → DerivesEach (Derives (sign Comma ▸ name)) others → AreFree name name_tokens Anything others
-others_named [] all = tt
-others_named (text ∷ others) ((_, own, _, derived, e), all) =
-    (name_free text Anything (subst IsNamed (sym e) (name_named DerivesSome own derived)), others_named others all)
-
-column_names_free : (found : List Bytes) (Behind : List PlacedLexeme → Type 0) → Derives names found → IsFree names found (listed_tokens name_tokens found) Behind
-unfolding names
-column_names_free found Behind (first, others, derived, (own, all, d), e) =
-    subst (λ (found : List Bytes). IsFree names found (listed_tokens name_tokens found) Behind) (sym (e ∙ ap (λ (others : List Bytes). first ∷ others) d))
-    (listed_any name name_tokens first own Behind (name_free first Anything (name_named DerivesSome first derived)) (others_named own all))
+use Rattle.aq_forms.proofs.Derived.{DerivesSome, Derives}
+use Rattle.aq_forms.proofs.Combining.{IsFree, Anything, done_free, says_free, both_any, behind_word, mapped_free, left_free, right_free, some_free, none_free, unless_free}
+use Rattle.aq_forms.proofs.Printing.{prints_names}
+use Rattle.aq_forms.proofs.Names.{IsNamed, public_named, public_free}
 
 -- ---- events
 
@@ -53,13 +37,13 @@ abbrev of_names : Rule (Option (List Bytes))
 of_names = optional (Keyword (codes "of") ∷ []) (word (codes "of") ▸ names)
 
 abbrev of_tokens : List Bytes → List Written
-of_tokens found = say (codes "OF") ∷ listed_tokens name_tokens found
+of_tokens found = say (codes "OF") ∷ names_tokens found
 
 of_names_free : (found : Option (List Bytes)) (Behind : List PlacedLexeme → Type 0) → Derives of_names found → IsFree of_names found (perhaps of_tokens found) Behind
 of_names_free found Behind (inl (_, _, (_, own, _, derived, d), _, e)) =
     subst (λ (found : Option (List Bytes)). IsFree of_names found (perhaps of_tokens found) Behind) (sym (e ∙ ap Some d))
     (some_free (Keyword (codes "of") ∷ []) (word (codes "of") ▸ names) own (of_tokens own) Behind
-    (behind_word (codes "OF") (codes "of") names own (listed_tokens name_tokens own) Behind refl refl (column_names_free own Behind derived)))
+    (behind_word (codes "OF") (codes "of") names own (names_tokens own) Behind refl refl (prints_names Behind own derived)))
 of_names_free found Behind (inr e) =
     subst (λ (found : Option (List Bytes)). IsFree of_names found (perhaps of_tokens found) Behind) (sym e)
     (none_free (Keyword (codes "of") ∷ []) (word (codes "of") ▸ names) Behind)

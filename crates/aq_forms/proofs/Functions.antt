@@ -9,6 +9,9 @@ use Rattle.aq_lex.specs.Lexemes.{PlacedLexeme}
 use Rattle.aq_grammar.specs.Terminals.{Keyword}
 use Rattle.aq_grammar.specs.Rules.{Rule, Both, Either}
 use Rattle.aq_grammar.specs.Forms.{word, sign, ◌▸◌, ◌◂◌, public_name}
+use Rattle.aq_grammar.specs.Expressions.{whole_expression}
+use Rattle.aq_grammar.specs.declared.scope.Scope.{Scope}
+use Rattle.aq_base.specs.declared.expr.Expr.{Expr}
 use Rattle.aq_grammar.specs.Bodies.{code}
 use Rattle.aq_grammar.specs.Triggers.{no_arguments, language, create_function}
 use Rattle.aq_texts.specs.Written.{Written, Said, say, Name, Mark, Call}
@@ -17,7 +20,7 @@ use Rattle.aq_forms.proofs.Derived.{DerivesSome, Derives}
 use Rattle.aq_forms.proofs.Combining.{IsFree, Anything, word_free, mark_free, call_free, both_any, then_free, behind_word, before_free, left_free}
 use Rattle.aq_forms.proofs.Names.{IsNamed, public_named, public_free}
 use Rattle.aq_forms.proofs.Depths.{block_depth, HasRoom}
-use Rattle.aq_forms.proofs.Bodies.{CallsFree, DerivesSoMany, ExpressionsFree, InsertsFree, UpdatesFree, DeletesFree, SetsFree, code_free}
+use Rattle.aq_forms.proofs.Bodies.{code_free}
 
 -- a statement behind the word CREATE: the tokens that it is printed as
 pub record IsCreated (rule : Rule Statement) (s : Statement) (Behind : List PlacedLexeme → Type 0) : Type 0 where
@@ -79,8 +82,8 @@ unfolding heading
 heading_named name (a, _, (b, _, (c, _, derived, _, e2), _, e1), _, e0) = subst IsNamed (sym (e0 ∙ (e1 ∙ e2))) (public_named DerivesSome c derived)
 
 module _
-    (calls_free : CallsFree) (derives_so_many : DerivesSoMany) (expression_free : ExpressionsFree) (insert_free : InsertsFree) (update_free : UpdatesFree)
-    (delete_free : DeletesFree) (set_constraints_free : SetsFree)
+    (expression_free :
+    (scope : Scope) (e : Expr) (Behind : List PlacedLexeme → Type 0) → Derives (whole_expression scope) e → IsFree (whole_expression scope) e (canon.expression e) Behind)
   where
     function_free : (name : Bytes) (body : List BodyStatement) (Behind : List PlacedLexeme → Type 0) → IsNamed name → Derives code body → block_depth body ≤ 100
         → IsFree create_function (function_of name body)
@@ -92,7 +95,7 @@ module _
         (both_any function_of heading written_code name body (heading_tokens name)
         (say (codes "LANGUAGE") ∷ say (codes "plpgsql") ∷ say (codes "AS") ∷ code_tokens body) Behind (heading_free name named)
         (written_code_free body Behind
-        (code_free calls_free derives_so_many expression_free insert_free update_free delete_free set_constraints_free body Behind derived few)))
+        (code_free expression_free body Behind derived few)))
 
     pub create_function_free : (s : Statement) (Behind : List PlacedLexeme → Type 0) → Derives create_function s → HasRoom s → IsCreated create_function s Behind
     unfolding create_function function_of heading heading_tokens written_code code_tokens
