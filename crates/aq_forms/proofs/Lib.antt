@@ -36,3 +36,4 @@ pub mod Functions
 pub mod Events
 pub mod TransitionTables
 pub mod Triggers
+pub mod Rooms
