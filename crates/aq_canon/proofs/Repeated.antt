@@ -18,13 +18,13 @@ pub stop_parts : {A : Type 0} (fault : Option SqlFault) (tokens : List PlacedLex
 stop_parts None tokens outcome y last e = (refl, e)
 stop_parts (Some fault) tokens outcome y last e = cc
 
-choice_parts : {A : Type 0} (test : Bool) (one other : Outcome A) (y : A) (last : List PlacedLexeme) → (if test then one else other) ≡ Read y last
+pub choice_parts : {A : Type 0} (test : Bool) (one other : Outcome A) (y : A) (last : List PlacedLexeme) → (if test then one else other) ≡ Read y last
     → ((test ≡ true) × (one ≡ Read y last)) ⊎ ((test ≡ false) × (other ≡ Read y last))
 choice_parts true one other y last e = inl (refl, e)
 choice_parts false one other y last e = inr (refl, e)
 
 -- texts of what is left
-pub TextsBehind : {A : Type 0} → Reader A → Type 0
+abbrev pub TextsBehind : {A : Type 0} → Reader A → Type 0
 TextsBehind {A} reader = (tokens rest : List PlacedLexeme) (x : A) → HaveTexts tokens → reader tokens ≡ Read x rest → HaveTexts rest
 
 module _ {S A : Type 0} (kinds : List Terminal) (refusals : S → List Refusal) (reader : S → Reader A) (next : S → A → S) (Spelled : Form A) (print : A → List Written)
@@ -39,7 +39,7 @@ module _ {S A : Type 0} (kinds : List Terminal) (refusals : S → List Refusal) 
     pub spelled : Spelled found tokens
     pub read : ReadsOrLimit (reader state (tokens ++ rest)) found rest
 
-  pub AreSameEach : List A → List A → Type 0
+  abbrev pub AreSameEach : List A → List A → Type 0
   AreSameEach [] [] = Unit {0}
   AreSameEach [] (y ∷ others) = ⊥
   AreSameEach (x ∷ xs) [] = ⊥
@@ -153,22 +153,29 @@ module _ {S A : Type 0} (kinds : List Terminal) (refusals : S → List Refusal) 
         → (more : ℕ) → length xs ≤ more → (lines : ℕ → ℕ) (at : ℕ) (rest : List PlacedLexeme) → Behind rest → AreAgain state more xs (laid lines at (flat_map print xs)) rest
     each_again most state tokens last [] texts read more enough lines at rest behind = record { found = []; same = tt; spelled = refl; read = inl (end_again more state rest behind) }
     each_again most state tokens last (x ∷ others) texts read zero enough lines at rest behind = absurd (omega arith)
-    each_again most state tokens last (x ∷ others) texts read (suc more) enough lines at rest behind = by_parts (each_parts most state tokens last (x ∷ others) read)
+    each_again most state tokens last (x ∷ others) texts read (suc more) enough lines at rest behind =
+        by_parts (each_parts most state tokens last (x ∷ others) read)
+        (λ fewer middle texts_left read_left.
+            each_again fewer (next state x) middle last others texts_left read_left more (omega (arith, enough)) lines (past at (print x)) rest behind)
       where
+        Others : Type 0
+        Others =
+            (fewer : ℕ) (middle : List PlacedLexeme) → HaveTexts middle → read_each_behind kinds refusals reader next fewer (next state x) middle ≡ Read others last
+            → AreAgain (next state x) more others (laid lines (past at (print x)) (flat_map print others)) rest
+
         by_parts :
             ((x ∷ others ≡ []) × (last ≡ tokens))
             ⊎ ((fewer : ℕ) × (y : A) × (found : List A) × (middle : List PlacedLexeme) × (most ≡ suc fewer) × (refused (refusals state) tokens ≡ None) × (begins kinds tokens ≡ true)
             × (reader state tokens ≡ Read y middle) × (read_each_behind kinds refusals reader next fewer (next state y) middle ≡ Read found last) × (x ∷ others ≡ y ∷ found))
-            → AreAgain state (suc more) (x ∷ others) (laid lines at (flat_map print (x ∷ others))) rest
-        by_parts (inl (e, d)) = cc
-        by_parts (inr (fewer, y, found, middle, size, none, begun, one, more_read, whole)) =
+            → Others → AreAgain state (suc more) (x ∷ others) (laid lines at (flat_map print (x ∷ others))) rest
+        by_parts (inl (e, d)) left = cc
+        by_parts (inr (fewer, y, found, middle, size, none, begun, one, more_read, whole)) left =
             let same_first : y ≡ x = cc in
             let same_others : found ≡ others = cc in
             let one_read : reader state tokens ≡ Read x middle = one ∙ ap (λ (z : A). Read z middle) same_first in
             let others_read : read_each_behind kinds refusals reader next fewer (next state x) middle ≡ Read others last =
-            ap (λ (z : A). read_each_behind kinds refusals reader next fewer (next state z) middle) (sym same_first) ∙ more_read
-            ∙ ap (λ (zs : List A). Read zs last) same_others in
+            ap (λ (z : A). read_each_behind kinds refusals reader next fewer (next state z) middle) (sym same_first) ∙ more_read ∙ ap (λ (zs : List A). Read zs last) same_others in
             one_more_again state x others more lines at rest
             (again state x tokens middle texts none begun one_read lines at (laid lines (past at (print x)) (flat_map print others) ++ rest)
             (each_follows others lines (past at (print x)) rest behind))
-            (each_again fewer (next state x) middle last others (texts_behind state tokens middle x texts one_read) others_read more (omega (arith, enough)) lines (past at (print x)) rest behind)
+            (left fewer middle (texts_behind state tokens middle x texts one_read) others_read)

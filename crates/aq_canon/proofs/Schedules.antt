@@ -12,7 +12,7 @@ use Rattle.aq_grammar.specs.Rules.{Nonterminal, ValueOf, Token, Either, Done}
 use Rattle.aq_grammar.specs.Sets.{is_fit_by}
 use Rattle.aq_grammar.specs.Reading.{Outcome, Read, Stop, Syntax, read_both}
 use Rattle.aq_grammar.specs.Forms.{sign, ◌▸◌}
-use Rattle.aq_grammar.specs.Nonterminals.{marks, reads, Spells}
+use Rattle.aq_grammar.specs.Nonterminals.{marks, reads, Spells, Bars}
 use Rattle.aq_grammar.proofs.Grammar.{is_read_right}
 use Rattle.aq_grammar.proofs.Languages.{IsRight, Explains, rest_of}
 use Rattle.aq_script.specs.Sections.{heading, session_name, item, items, schedule}
@@ -26,7 +26,10 @@ use Rattle.aq_forms.proofs.Combining.{IsFree, AreFree, Anything, token_free, sym
 use Rattle.aq_forms.proofs.Names.{plain_named, name_fits, name_sound, name_text_is}
 use Rattle.aq_forms.proofs.Reading.{free_reads, free_spells}
 use Rattle.aq_forms.proofs.Deriving.{derives}
+use Rattle.aq_forms.proofs.Headings.{has_no_heading}
 use Rattle.aq_canon.proofs.Outcomes.{both_parts, both_again}
+use Rattle.aq_canon.proofs.Repeated.{choice_parts}
+use Rattle.aq_canon.proofs.Statements.{texts_before}
 use Rattle.aq_canon.proofs.Sessions.{token_parts, bare_lexeme}
 
 -- ---- items
@@ -104,3 +107,70 @@ schedule_tokens (Some found) = Heading_token Schedule ∷ flat_map item_tokens f
 pub record ScheduleAgain (found : Option (List Item)) (tokens : List PlacedLexeme) : Type 0 where
   pub spelled : Spells schedule found tokens
   pub read : ReadsOrLimit (reads schedule tokens) found []
+
+items_have_none : has_no_heading items ≡ true
+unfolding item
+items_have_none = refl
+
+-- items that were read are read again
+items_again : (tokens rest : List PlacedLexeme) (found : List Item) → HaveTexts tokens → reads items tokens ≡ Read found rest → (lines : ℕ → ℕ) (at : ℕ)
+    → Free items found (laid lines at (flat_map item_tokens found)) []
+items_again tokens rest found texts read lines at =
+    by_right (is_read_right items items_fit tokens) read
+  where
+    by_right : IsRight (Spells items) (Bars items) tokens (reads items tokens) → reads items tokens ≡ Read found rest → Free items found (laid lines at (flat_map item_tokens found)) []
+    by_right right e =
+        let whole : tokens ≡ right.front ++ rest = right.whole ∙ ap (λ (o : Outcome (List Item)). right.front ++ rest_of o) e in
+        let explained : Explains (Spells items) (Bars items) (Read found rest) right.front =
+        subst (λ (o : Outcome (List Item)). Explains (Spells items) (Bars items) o right.front) e right.explained in
+        items_free DerivesSome found
+        (derives items found right.front items_have_none explained.spelled (texts_before right.front rest (subst HaveTexts whole texts))) lines at [] tt
+
+none_again : ScheduleAgain None []
+unfolding schedule
+none_again = record { spelled = inr (refl, refl); read = inl refl }
+
+some_again : (found : List Item) (lines : ℕ → ℕ) (at : ℕ) → Free items found (laid lines (suc at) (flat_map item_tokens found)) []
+    → ScheduleAgain (Some found) (laid lines at (schedule_tokens (Some found)))
+unfolding schedule
+some_again found lines at free =
+    let title : PlacedLexeme = record { line = lines at; lexeme = Directive Schedule } in
+    let behind = laid lines (suc at) (flat_map item_tokens found) in
+    let read : ReadsOrLimit (reads items behind) found [] =
+    subst (λ (u : List PlacedLexeme). ReadsOrLimit (reads items u) found []) (append-nil behind) (free_reads items found behind [] items_fit refl free) in
+    record {
+      spelled =
+          inl (title ∷ behind, [], found, tt,
+          (title ∷ [], behind, tt, found, (title, refl, refl, refl), free_spells items found behind [] free, refl, refl), (refl, refl), sym (append-nil (title ∷ behind)), refl);
+      read =
+          both_again (λ x (y : Unit {0}). Some x) (λ tokens. read_both (λ (x : Unit {0}) y. y) (reads (heading Schedule)) (λ x. reads items) tokens) (λ x tokens. Read tt tokens)
+          (title ∷ behind) [] [] found tt
+          (both_again (λ (x : Unit {0}) y. y) (reads (heading Schedule)) (λ x. reads items) (title ∷ behind) behind [] tt found (inl refl) read) (inl refl);
+    }
+
+pub schedule_again : (tokens : List PlacedLexeme) (found : Option (List Item)) → HaveTexts tokens → reads schedule tokens ≡ Read found [] → (lines : ℕ → ℕ) (at : ℕ)
+    → ScheduleAgain found (laid lines at (schedule_tokens found))
+unfolding schedule
+schedule_again tokens found texts read lines at =
+    by_choice
+    (choice_parts (begins (Heading Schedule ∷ []) tokens)
+    (read_both (λ x (y : Unit {0}). Some x) (λ tokens. read_both (λ (x : Unit {0}) y. y) (reads (heading Schedule)) (λ x. reads items) tokens) (λ x tokens. Read tt tokens) tokens) (Read None tokens)
+    found [] read)
+  where
+    Said : Type 0
+    Said =
+        read_both (λ x (y : Unit {0}). Some x) (λ tokens. read_both (λ (x : Unit {0}) y. y) (reads (heading Schedule)) (λ x. reads items) tokens) (λ x tokens. Read tt tokens) tokens
+        ≡ Read found []
+
+    by_choice : ((begins (Heading Schedule ∷ []) tokens ≡ true) × Said)
+        ⊎ ((begins (Heading Schedule ∷ []) tokens ≡ false) × (◌≡◌ {A = Outcome (Option (List Item))} (Read None tokens) (Read found [])))
+        → ScheduleAgain found (laid lines at (schedule_tokens found))
+    by_choice (inl (begun, said)) =
+        let (its, nothing, middle, first, second, whole) =
+        both_parts (λ x (y : Unit {0}). Some x) (λ tokens. read_both (λ (x : Unit {0}) y. y) (reads (heading Schedule)) (λ x. reads items) tokens) (λ x tokens. Read tt tokens) tokens [] found said in
+        let (title, its', behind, heading_read, items_read, its_whole) = both_parts (λ (x : Unit {0}) y. y) (reads (heading Schedule)) (λ x. reads items) tokens middle its first in
+        let (token, tokens_are, fit, value) = token_parts (Heading Schedule) (λ token. tt) tokens behind title heading_read in
+        let texts_left : HaveTexts (token ∷ behind) = subst HaveTexts tokens_are texts in
+        let free = items_again behind middle its' texts_left.1 items_read lines (suc at) in
+        subst (λ (x : Option (List Item)). ScheduleAgain x (laid lines at (schedule_tokens x))) (sym (whole ∙ ap Some its_whole)) (some_again its' lines at free)
+    by_choice (inr (ended, said)) = let none : found ≡ None = cc in subst (λ (x : Option (List Item)). ScheduleAgain x (laid lines at (schedule_tokens x))) (sym none) none_again

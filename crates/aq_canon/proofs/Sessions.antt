@@ -83,7 +83,7 @@ plain_sound (Text text) e has = cc
 plain_sound (Symbol symbol) e has = cc
 plain_sound (Directive directive) e has = cc
 
-bare_lexeme : (text : Bytes) → is_bare text ≡ true → lexeme_of (Name text) ≡ Word text
+pub bare_lexeme : (text : Bytes) → is_bare text ≡ true → lexeme_of (Name text) ≡ Word text
 bare_lexeme text e = ap (λ (b : Bool). if b then Word text else QuotedName text) e
 
 -- one session more may begin
@@ -167,7 +167,7 @@ module _ (again : AreReadAgain in_session) where
       let bare : is_bare x.name ≡ true = ap is_bare parts.is_name ∙ named.1 in
       let name_is : lexeme_of (Name x.name) ≡ token.lexeme = bare_lexeme x.name bare ∙ ap Word parts.is_name ∙ sym (plain_lexeme token.lexeme parts.is_plain) in
       let plain : is_plain_name (lexeme_of (Name x.name)) ≡ true = ap is_plain_name name_is ∙ parts.is_plain in
-      let found = record { name = x.name; statements = are.found } in
+      let found : SessionText = record { name = x.name; statements = are.found } in
       let behind_name = laid lines (suc (suc at)) (flat_map placed_tokens x.statements) ++ rest in
       record {
         free = no_limit (nat_lt (length state.names) session_limit) (lines at) (lines at) (name_at (lines (suc at)) x.name ∷ behind_name) (name_at (lines (suc at)) x.name ∷ behind_name) tokens begun none;
@@ -176,7 +176,7 @@ module _ (again : AreReadAgain in_session) where
         same = ap (λ (statements : List Placed). record { name = x.name; statements = statements }) are.same;
         next_same =
             ap (λ (count : ℕ). record { statements = state.statements + count; names = state.names ++ x.name ∷ [] })
-            (sym (length-map statement_alone are.found) ∙ ap (λ (xs : List Placed). length xs) are.same ∙ length-map statement_alone x.statements);
+            (sym (length-map are.found statement_alone) ∙ ap (λ (xs : List Placed). length xs) are.same ∙ length-map x.statements statement_alone);
         spelled =
             (heading_at (lines at) ∷ name_at (lines (suc at)) x.name ∷ [], laid lines (suc (suc at)) (flat_map placed_tokens x.statements), x.name, are.found,
             (heading_at (lines at) ∷ [], name_at (lines (suc at)) x.name ∷ [], tt, x.name, (heading_at (lines at), refl, refl, refl),
@@ -214,7 +214,7 @@ module _ (again : AreReadAgain in_session) where
       → (lines : ℕ → ℕ) (at : ℕ) (rest : List PlacedLexeme) → ScheduleNext rest → SessionsAgain statements xs (laid lines at (flat_map session_tokens xs)) rest
   sessions_again statements tokens last xs texts read lines at rest behind =
       let size = length (laid lines at (flat_map session_tokens xs) ++ rest) in
-      let first = record { statements = statements; names = [] } in
+      let first : Before = record { statements = statements; names = [] } in
       let are =
       each_again (Heading Session ∷ []) session_refusals session_reader and_session SpellsSession session_tokens SameSession HeadingNext ScheduleNext
       (λ before tokens rest x texts read. session_texts before tokens rest x texts read) session_again (λ x lines at rest. AtSession (lines at) _) heading_next sessions_end (length tokens) first tokens last

@@ -1,6 +1,6 @@
 -- The statements of a section are read again from their lines.
 use Rattle.std.proofs.Common.{◌≡◌, ℕ, suc, ◌≤◌, ◌<◌, ◌+◌, Bool, true, false, List, [], ◌∷◌, ◌++◌, length, flat_map, map, Option, Some, None, inl, inr, refl, sym, ap, ap₂, ◌∙◌, subst, ◌⊎◌, arith, append_assoc, if◌then◌else◌, length-append}
-use Rattle.std.proofs.lemmas.Bool.{ltb-true}
+use Rattle.std.proofs.lemmas.Bool.{ltb-false}
 use Rattle.std.specs.Prelude.{nat_lt, codes}
 use Rattle.aq_grammar.specs.Forms.{limit}
 use Rattle.aq_script.proofs.Fit.{SectionFits}
@@ -65,11 +65,18 @@ first_line_is lines at (w ∷ ws) rest = (refl, refl)
 abbrev beyond : Bool → Section → List Refusal
 beyond fewer section = if fewer then [] else map (λ kind. record { words = kind ∷ []; fault = limit (codes "more than 65536 statements") }) (kinds_of section)
 
+less_test : (a b : ℕ) → a < b → nat_lt a b ≡ true
+less_test a b less = by_test (nat_lt a b) refl
+  where
+    by_test : (test : Bool) → nat_lt a b ≡ test → nat_lt a b ≡ true
+    by_test true e = e
+    by_test false e = let more = ltb-false a b e in absurd (omega (arith, less, more))
+
 -- a statement more may stand here
 free_behind : (section : Section) (statements : ℕ) (tokens : List PlacedLexeme) → statements < statement_limit → refused section.refused tokens ≡ None
     → refused (refused_behind section statements) tokens ≡ None
 free_behind section statements tokens less none =
-    ap (λ (test : Bool). refused (beyond test section ++ section.refused) tokens) (ltb-true statements statement_limit less) ∙ none
+    ap (λ (test : Bool). refused (beyond test section ++ section.refused) tokens) (less_test statements statement_limit less) ∙ none
 
 either_free : (section : Section) (rest : List PlacedLexeme) → refused section.refused rest ≡ None → refused (beyond false section ++ section.refused) rest ≡ None → (statements : ℕ)
     → refused (refused_behind section statements) rest ≡ None
@@ -126,6 +133,10 @@ pub record StatementsAgain (section : Section) (state : ℕ) (xs : List Placed) 
   pub spelled : SpellsStatements section found tokens
   pub read : ReadsOrLimit (read_all_statements section state (tokens ++ rest)) found rest
 
+pub texts_before : (front rest : List PlacedLexeme) → HaveTexts (front ++ rest) → HaveTexts front
+texts_before [] rest texts = tt
+texts_before (token ∷ front) rest texts = (texts.0, texts_before front rest texts.1)
+
 module _ (section : Section) (fits : SectionFits section) (again : AreReadAgain section) (ends : EndsFree section) where
   abbrev next_count : ℕ → Placed → ℕ
   next_count before placed = before + 1
@@ -167,14 +178,14 @@ module _ (section : Section) (fits : SectionFits section) (again : AreReadAgain 
       }
     where
       placed_read : (outcome : Outcome Statement) → ReadsOrLimit outcome x.statement rest → line_of (laid lines at (placed_tokens x) ++ rest) ≡ lines at
-          → ReadsOrLimit (outcome >>= λ statement rest. Read (record { line = line_of (laid lines at (placed_tokens x) ++ rest); statement = statement }) rest)
+          → ReadsOrLimit {A = Placed} (outcome >>= λ statement last. Read (record { line = line_of (laid lines at (placed_tokens x) ++ rest); statement = statement }) last)
           (record { line = lines at; statement = x.statement }) rest
       placed_read outcome (inl e) line =
-          inl (ap (λ (o : Outcome Statement). o >>= λ statement rest. Read (record { line = line_of (laid lines at (placed_tokens x) ++ rest); statement = statement }) rest) e
+          inl (ap (λ (o : Outcome Statement). o >>= λ statement last. Read (record { line = line_of (laid lines at (placed_tokens x) ++ rest); statement = statement }) last) e
           ∙ ap (λ (n : ℕ). Read (record { line = n; statement = x.statement }) rest) line)
-      placed_read outcome (inr (fault, place, e, limit)) line =
+      placed_read outcome (inr (fault, place, e, is_limit)) line =
           inr (fault, place,
-          ap (λ (o : Outcome Statement). o >>= λ statement rest. Read (record { line = line_of (laid lines at (placed_tokens x) ++ rest); statement = statement }) rest) e, limit)
+          ap (λ (o : Outcome Statement). o >>= λ statement last. Read (record { line = line_of (laid lines at (placed_tokens x) ++ rest); statement = statement }) last) e, is_limit)
 
   pub statements_again : (state : ℕ) (tokens last : List PlacedLexeme) (xs : List Placed) → HaveTexts tokens → read_all_statements section state tokens ≡ Read xs last
       → (lines : ℕ → ℕ) (at : ℕ) (rest : List PlacedLexeme) → HeadingNext rest → StatementsAgain section state xs (laid lines at (flat_map placed_tokens xs)) rest

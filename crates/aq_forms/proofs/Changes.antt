@@ -27,6 +27,7 @@ use Rattle.aq_base.specs.declared.modes.ConstraintMode.TheVariants.{Deferred, Im
 use Rattle.aq_base.specs.declared.modes.Constraints.TheVariants.{All as All_constraints, Named as Named_constraints}
 use Rattle.aq_texts.specs.Written.{Written, say, Name, Mark, columns as columns_tokens, names as names_tokens, listed as listed_tokens, in_parentheses as in_parentheses_tokens}
 use Rattle.aq_texts.specs.Canon.{perhaps, expression as expression_tokens, given as given_tokens, where_part as where_tokens, source as source_tokens, insert as insert_tokens, assignment as assignment_tokens, update as update_tokens, delete as delete_tokens, shown_columns, lock as lock_tokens, select as select_tokens, constraints as constraints_tokens, mode as mode_token, set_constraints as set_constraints_tokens}
+use Rattle.aq_forms.proofs.Expressions.{expression_free}
 use Rattle.aq_forms.proofs.Derived.{Derives}
 use Rattle.aq_forms.proofs.Combining.{IsFree, Anything, Semicolon_next, Nothing_refused, MayFollow, says_free, behind_word, left_free, right_free}
 use Rattle.aq_forms.proofs.Printing.{Prints, prints_as, prints_says, prints_word, prints_word_mapped, prints_word_both, prints_sign, prints_mark, prints_both, prints_mapped, prints_either, prints_optional, prints_unless, prints_end, prints_listed, prints_parentheses, name_tokens, prints_name, prints_public_name, prints_names, semicolon_next}
@@ -163,10 +164,7 @@ row_tokens row = in_parentheses_tokens (listed_tokens given_tokens row)
 abbrev pub table_tokens : Bytes × Option Expr → List Written
 table_tokens found = say (codes "FROM") ∷ Name found.0 ∷ where_tokens found.1
 
-module _
-    (expression_free :
-    (scope : Scope) (e : Expr) (Behind : List PlacedLexeme → Type 0) → Derives (whole_expression scope) e → IsFree (whole_expression scope) e (expression_tokens e) Behind)
-    (scope : Scope) where
+module _ (scope : Scope) where
   prints_expression : (Behind : List PlacedLexeme → Type 0) → Prints (whole_expression scope) expression_tokens Behind
   prints_expression Behind e derived = expression_free scope e Behind derived
 

@@ -15,6 +15,7 @@ use Rattle.aq_grammar.specs.Nonterminals.{rules}
 use Rattle.aq_grammar.specs.Tables.{target, constraint_name, immediate, with_timing, references_then, behind_key, not_valid, other_constraints, constraints, not_null, named_constraint, others_then, column_constraints, other_column_constraints, behind_timing, deferring, behind_not_deferrable, reference_end, decl}
 use Rattle.aq_texts.specs.Written.{Written, Said, Name}
 use Rattle.aq_texts.specs.Canon.{timing, column_constraint, constraint_name as constraint_name_tokens, reference as reference_tokens}
+use Rattle.aq_forms.proofs.Reading.{called_free}
 use Rattle.aq_forms.proofs.Derived.{Trees, DerivesBy, DerivesWithin, DerivesSome}
 use Rattle.aq_forms.proofs.Combining.{IsFree, Anything, MayFollow, Nothing_refused}
 use Rattle.aq_forms.proofs.Composing.{Rest, Prints, Symbol_next, before_symbol, nothing_prints, word_then, both_print, both_print_any, mapped_prints, left_prints, right_prints, unless_prints, prints_as}
@@ -166,142 +167,135 @@ ArePrinted d found =
     Prints (column_constraints d) found (all_tokens found) Symbol_next
     × ((t : Decl) → IsTiming t → Prints (reference_end d) (t, found) (timing t ++ all_tokens found) Symbol_next)
 
--- what a rule that leads back to itself spells freely, a call of it does
-abbrev pub CalledFree : Type 1
-CalledFree =
-    (n : Nonterminal) (f : ValueOf n → ValueOf n) (x : ValueOf n) (ws : List Written) (Behind : List PlacedLexeme → Type 0) → IsFree (rules n) x ws Behind
-    → IsFree (Call n f) (f x) ws Behind
+call_alone : (d : Bool) (found : List ColumnConstraint) → Prints (column_constraints d) found (all_tokens found) Symbol_next
+    → Prints (constraints d) found (all_tokens found) Symbol_next
+unfolding rules
+call_alone d found alone = record { free = called_free (ColumnConstraints d) (λ others. others) found (all_tokens found) Symbol_next alone.free }
 
-module _ (called_free : CalledFree) where
-  call_alone : (d : Bool) (found : List ColumnConstraint) → Prints (column_constraints d) found (all_tokens found) Symbol_next
-      → Prints (constraints d) found (all_tokens found) Symbol_next
-  unfolding rules
-  call_alone d found alone = record { free = called_free (ColumnConstraints d) (λ others. others) found (all_tokens found) Symbol_next alone.free }
+call_prints : (d : Bool) (found : List ColumnConstraint) → ArePrinted d found → Prints (constraints d) found (all_tokens found) Symbol_next
+call_prints d found printed = call_alone d found printed.0
 
-  call_prints : (d : Bool) (found : List ColumnConstraint) → ArePrinted d found → Prints (constraints d) found (all_tokens found) Symbol_next
-  call_prints d found printed = call_alone d found printed.0
+call_ends : (d : Bool) (t : Decl) (found : List ColumnConstraint) → IsTiming t → ArePrinted d found
+    → Prints (Call (ReferenceEnd d) (λ others. others)) (t, found) (timing t ++ all_tokens found) Symbol_next
+unfolding rules
+call_ends d t found timed printed =
+    record { free = called_free (ReferenceEnd d) (λ others. others) (t, found) (timing t ++ all_tokens found) Symbol_next (printed.1 t timed).free }
 
-  call_ends : (d : Bool) (t : Decl) (found : List ColumnConstraint) → IsTiming t → ArePrinted d found
-      → Prints (Call (ReferenceEnd d) (λ others. others)) (t, found) (timing t ++ all_tokens found) Symbol_next
-  unfolding rules
-  call_ends d t found timed printed =
-      record { free = called_free (ReferenceEnd d) (λ others. others) (t, found) (timing t ++ all_tokens found) Symbol_next (printed.1 t timed).free }
+not_null_prints : (d : Bool) (others : List ColumnConstraint) → ArePrinted d others
+    → Prints (not_null d) (NotNull ∷ others) (Said (codes "NULL") ∷ all_tokens others) Symbol_next
+unfolding not_null
+not_null_prints d others printed = word_then refl (mapped_prints {f = λ others. NotNull ∷ others} (call_prints d others printed))
 
-  not_null_prints : (d : Bool) (others : List ColumnConstraint) → ArePrinted d others
-      → Prints (not_null d) (NotNull ∷ others) (Said (codes "NULL") ∷ all_tokens others) Symbol_next
-  unfolding not_null
-  not_null_prints d others printed = word_then refl (mapped_prints {f = λ others. NotNull ∷ others} (call_prints d others printed))
+primary_prints : (d : Bool) (others : List ColumnConstraint) → ArePrinted d others
+    → Prints (named_constraint d) (λ name. PrimaryKey name ∷ others) (Said (codes "PRIMARY") ∷ Said (codes "KEY") ∷ all_tokens others) Symbol_next
+unfolding named_constraint
+primary_prints d others printed =
+    left_prints (word_then refl (word_then refl
+    (unless_prints (mapped_prints {f = λ others name. PrimaryKey name ∷ others} (call_prints d others printed)) (λ lines at rest next. (begin_well others lines at rest next).1))))
 
-  primary_prints : (d : Bool) (others : List ColumnConstraint) → ArePrinted d others
-      → Prints (named_constraint d) (λ name. PrimaryKey name ∷ others) (Said (codes "PRIMARY") ∷ Said (codes "KEY") ∷ all_tokens others) Symbol_next
-  unfolding named_constraint
-  primary_prints d others printed =
-      left_prints (word_then refl (word_then refl
-      (unless_prints (mapped_prints {f = λ others name. PrimaryKey name ∷ others} (call_prints d others printed)) (λ lines at rest next. (begin_well others lines at rest next).1))))
+unique_prints : (d : Bool) (others : List ColumnConstraint) → ArePrinted d others
+    → Prints (named_constraint d) (λ name. Unique name ∷ others) (Said (codes "UNIQUE") ∷ all_tokens others) Symbol_next
+unfolding named_constraint
+unique_prints d others printed =
+    right_prints (left_prints (word_then refl
+    (unless_prints (mapped_prints {f = λ others name. Unique name ∷ others} (call_prints d others printed)) (λ lines at rest next. (begin_well others lines at rest next).1))))
 
-  unique_prints : (d : Bool) (others : List ColumnConstraint) → ArePrinted d others
-      → Prints (named_constraint d) (λ name. Unique name ∷ others) (Said (codes "UNIQUE") ∷ all_tokens others) Symbol_next
-  unfolding named_constraint
-  unique_prints d others printed =
-      right_prints (left_prints (word_then refl
-      (unless_prints (mapped_prints {f = λ others name. Unique name ∷ others} (call_prints d others printed)) (λ lines at rest next. (begin_well others lines at rest next).1))))
+references_print : (d : Bool) (r : Reference) (others : List ColumnConstraint) → IsReference r → ArePrinted d others
+    → Prints (named_constraint d) (λ name. References name r ∷ others) (reference_tokens r ++ all_tokens others) Symbol_next
+unfolding named_constraint
+references_print d r others valid printed =
+    right_prints (right_prints
+    (prints_as
+    (both_print {f = λ target others name. references_then name target others} (target_prints (target_part r) (valid.0, valid.1)) (call_ends d r.timing others valid.2 printed)
+    (end_begins r.timing valid.2 others)) (reference_and r (all_tokens others))))
 
-  references_print : (d : Bool) (r : Reference) (others : List ColumnConstraint) → IsReference r → ArePrinted d others
-      → Prints (named_constraint d) (λ name. References name r ∷ others) (reference_tokens r ++ all_tokens others) Symbol_next
-  unfolding named_constraint
-  references_print d r others valid printed =
-      right_prints (right_prints
-      (prints_as
-      (both_print {f = λ target others name. references_then name target others} (target_prints (target_part r) (valid.0, valid.1)) (call_ends d r.timing others valid.2 printed)
-      (end_begins r.timing valid.2 others)) (reference_and r (all_tokens others))))
+-- with its name, if it has one
+named_prints :
+    (d : Bool) (named : Option Bytes → List ColumnConstraint) (ws : List Written) → Prints (named_constraint d) named ws Symbol_next
+    → MayFollow ws Symbol_next (Nothing_refused other_constraints) → (name : Option Bytes) → PerhapsNamed name
+    → Prints (perhaps_named d) (named name) (constraint_name_tokens name ++ ws) Symbol_next
+named_prints d named ws bare none None own = right_prints (mapped_prints {f = λ named. named None} bare)
+named_prints d named ws bare none (Some text) own =
+    left_prints
+    (both_print_any {f = λ text named. named (Some text)} {ws = Said (codes "CONSTRAINT") ∷ Name text ∷ []} (constraint_name_prints text Anything own) (unless_prints bare none))
 
-  -- with its name, if it has one
-  named_prints :
-      (d : Bool) (named : Option Bytes → List ColumnConstraint) (ws : List Written) → Prints (named_constraint d) named ws Symbol_next
-      → MayFollow ws Symbol_next (Nothing_refused other_constraints) → (name : Option Bytes) → PerhapsNamed name
-      → Prints (perhaps_named d) (named name) (constraint_name_tokens name ++ ws) Symbol_next
-  named_prints d named ws bare none None own = right_prints (mapped_prints {f = λ named. named None} bare)
-  named_prints d named ws bare none (Some text) own =
-      left_prints
-      (both_print_any {f = λ text named. named (Some text)} {ws = Said (codes "CONSTRAINT") ∷ Name text ∷ []} (constraint_name_prints text Anything own) (unless_prints bare none))
+no_default : (d : Bool) (found : List ColumnConstraint) (ws : List Written) → Prints (perhaps_named d) found ws Symbol_next → Prints (others_then d) found ws Symbol_next
+unfolding others_then
+no_default true found ws prints = prints
+no_default false found ws prints = right_prints prints
 
-  no_default : (d : Bool) (found : List ColumnConstraint) (ws : List Written) → Prints (perhaps_named d) found ws Symbol_next → Prints (others_then d) found ws Symbol_next
-  unfolding others_then
-  no_default true found ws prints = prints
-  no_default false found ws prints = right_prints prints
+default_prints : (value : Value) (others : List ColumnConstraint) → IsConstant value → ArePrinted true others
+    → Prints (others_then false) (Default value ∷ others) (all_tokens (Default value ∷ others)) Symbol_next
+unfolding others_then
+default_prints value others valid printed =
+    left_prints (word_then refl (both_print_any {f = λ value others. Default value ∷ others} (constant_prints value Anything valid) (call_prints true others printed)))
 
-  default_prints : (value : Value) (others : List ColumnConstraint) → IsConstant value → ArePrinted true others
-      → Prints (others_then false) (Default value ∷ others) (all_tokens (Default value ∷ others)) Symbol_next
-  unfolding others_then
-  default_prints value others valid printed =
-      left_prints (word_then refl (both_print_any {f = λ value others. Default value ∷ others} (constant_prints value Anything valid) (call_prints true others printed)))
+deferred_end : (d deferred : Bool) (found : List ColumnConstraint) → Prints (constraints d) found (all_tokens found) Symbol_next
+    → Prints (reference_end d) (decl true deferred, found) (timing (decl true deferred) ++ all_tokens found) Symbol_next
+unfolding reference_end
+deferred_end d deferred found printed =
+    unless_prints
+    (right_prints (left_prints
+    (both_print_any {f = with_timing} (deferring_prints deferred Anything) (unless_prints printed (λ lines at rest next. (begin_well found lines at rest next).2)))))
+    (λ lines at rest next. refl)
 
-  deferred_end : (d deferred : Bool) (found : List ColumnConstraint) → Prints (constraints d) found (all_tokens found) Symbol_next
-      → Prints (reference_end d) (decl true deferred, found) (timing (decl true deferred) ++ all_tokens found) Symbol_next
-  unfolding reference_end
-  deferred_end d deferred found printed =
-      unless_prints
-      (right_prints (left_prints
-      (both_print_any {f = with_timing} (deferring_prints deferred Anything) (unless_prints printed (λ lines at rest next. (begin_well found lines at rest next).2)))))
-      (λ lines at rest next. refl)
+-- what comes behind REFERENCES, where the constraints are printed by themselves and there with no timing
+ends : (d : Bool) (found : List ColumnConstraint) → Prints (column_constraints d) found (all_tokens found) Symbol_next
+    → Prints (reference_end d) (immediate, found) (all_tokens found) Symbol_next → ArePrinted d found
+ends d found alone at_once = (alone, by_timing)
+  where
+    deferrable_end : (deferred : Bool) → Prints (reference_end d) (decl true deferred, found) (timing (decl true deferred) ++ all_tokens found) Symbol_next
+    deferrable_end deferred = deferred_end d deferred found (call_alone d found alone)
 
-  -- what comes behind REFERENCES, where the constraints are printed by themselves and there with no timing
-  ends : (d : Bool) (found : List ColumnConstraint) → Prints (column_constraints d) found (all_tokens found) Symbol_next
-      → Prints (reference_end d) (immediate, found) (all_tokens found) Symbol_next → ArePrinted d found
-  ends d found alone at_once = (alone, by_timing)
-    where
-      deferrable_end : (deferred : Bool) → Prints (reference_end d) (decl true deferred, found) (timing (decl true deferred) ++ all_tokens found) Symbol_next
-      deferrable_end deferred = deferred_end d deferred found (call_alone d found alone)
+    by_timing : (t : Decl) → IsTiming t → Prints (reference_end d) (t, found) (timing t ++ all_tokens found) Symbol_next
+    by_timing t (inl e) = rw e at_once
+    by_timing t (inr (inl e)) = rw e (deferrable_end false)
+    by_timing t (inr (inr e)) = rw e (deferrable_end true)
 
-      by_timing : (t : Decl) → IsTiming t → Prints (reference_end d) (t, found) (timing t ++ all_tokens found) Symbol_next
-      by_timing t (inl e) = rw e at_once
-      by_timing t (inr (inl e)) = rw e (deferrable_end false)
-      by_timing t (inr (inr e)) = rw e (deferrable_end true)
+-- constraints that begin otherwise than with NOT
+others_printed : (d : Bool) (found : List ColumnConstraint) → Prints (others_then d) found (all_tokens found) Symbol_next → ArePrinted d found
+unfolding column_constraints reference_end other_column_constraints
+others_printed d found prints =
+    ends d found (unless_prints (left_prints (right_prints prints)) (λ lines at rest next. (begin_well found lines at rest next).0))
+    (unless_prints (right_prints (right_prints (mapped_prints {f = with_timing immediate} (left_prints prints)))) (λ lines at rest next. (begin_well found lines at rest next).3))
 
-  -- constraints that begin otherwise than with NOT
-  others_printed : (d : Bool) (found : List ColumnConstraint) → Prints (others_then d) found (all_tokens found) Symbol_next → ArePrinted d found
-  unfolding column_constraints reference_end other_column_constraints
-  others_printed d found prints =
-      ends d found (unless_prints (left_prints (right_prints prints)) (λ lines at rest next. (begin_well found lines at rest next).0))
-      (unless_prints (right_prints (right_prints (mapped_prints {f = with_timing immediate} (left_prints prints)))) (λ lines at rest next. (begin_well found lines at rest next).3))
+nothing_printed : (d : Bool) → ArePrinted d []
+unfolding column_constraints reference_end other_column_constraints
+nothing_printed d =
+    ends d [] (unless_prints (right_prints nothing_prints) (λ lines at rest next. (begin_well [] lines at rest next).0))
+    (unless_prints (right_prints (right_prints (mapped_prints {f = with_timing immediate} (right_prints nothing_prints)))) (λ lines at rest next. (begin_well [] lines at rest next).3))
 
-  nothing_printed : (d : Bool) → ArePrinted d []
-  unfolding column_constraints reference_end other_column_constraints
-  nothing_printed d =
-      ends d [] (unless_prints (right_prints nothing_prints) (λ lines at rest next. (begin_well [] lines at rest next).0))
-      (unless_prints (right_prints (right_prints (mapped_prints {f = with_timing immediate} (right_prints nothing_prints)))) (λ lines at rest next. (begin_well [] lines at rest next).3))
+not_null_printed : (d : Bool) (others : List ColumnConstraint) → ArePrinted d others → ArePrinted d (NotNull ∷ others)
+unfolding column_constraints reference_end
+not_null_printed d others printed =
+    ends d (NotNull ∷ others) (unless_prints (left_prints (left_prints (word_then refl (not_null_prints d others printed)))) (λ lines at rest next. refl))
+    (unless_prints (left_prints (word_then refl (left_prints (mapped_prints {f = with_timing immediate} (not_null_prints d others printed))))) (λ lines at rest next. refl))
 
-  not_null_printed : (d : Bool) (others : List ColumnConstraint) → ArePrinted d others → ArePrinted d (NotNull ∷ others)
-  unfolding column_constraints reference_end
-  not_null_printed d others printed =
-      ends d (NotNull ∷ others) (unless_prints (left_prints (left_prints (word_then refl (not_null_prints d others printed)))) (λ lines at rest next. refl))
-      (unless_prints (left_prints (word_then refl (left_prints (mapped_prints {f = with_timing immediate} (not_null_prints d others printed))))) (λ lines at rest next. refl))
+all_printed : (found : List ColumnConstraint) (d : Bool) → AreConstraints found d → ArePrinted d found
+all_printed [] d valid = nothing_printed d
+all_printed (NotNull ∷ others) d valid = not_null_printed d others (all_printed others d valid)
+all_printed (Default value ∷ others) d valid =
+    rw valid.0 (others_printed false (Default value ∷ others) (default_prints value others valid.1 (all_printed others true valid.2)))
+all_printed (PrimaryKey name ∷ others) d valid =
+    others_printed d (PrimaryKey name ∷ others)
+    (no_default d (PrimaryKey name ∷ others) (all_tokens (PrimaryKey name ∷ others))
+    (prints_as
+    (named_prints d (λ name. PrimaryKey name ∷ others) (Said (codes "PRIMARY") ∷ Said (codes "KEY") ∷ all_tokens others) (primary_prints d others (all_printed others d valid.1))
+    (λ lines at rest next. refl) name valid.0) (append_assoc (constraint_name_tokens name) (Said (codes "PRIMARY") ∷ Said (codes "KEY") ∷ []) (all_tokens others))))
+all_printed (Unique name ∷ others) d valid =
+    others_printed d (Unique name ∷ others)
+    (no_default d (Unique name ∷ others) (all_tokens (Unique name ∷ others))
+    (prints_as
+    (named_prints d (λ name. Unique name ∷ others) (Said (codes "UNIQUE") ∷ all_tokens others) (unique_prints d others (all_printed others d valid.1))
+    (λ lines at rest next. refl) name valid.0) (append_assoc (constraint_name_tokens name) (Said (codes "UNIQUE") ∷ []) (all_tokens others))))
+all_printed (References name reference ∷ others) d valid =
+    others_printed d (References name reference ∷ others)
+    (no_default d (References name reference ∷ others) (all_tokens (References name reference ∷ others))
+    (prints_as
+    (named_prints d (λ name. References name reference ∷ others) (reference_tokens reference ++ all_tokens others)
+    (references_print d reference others valid.1 (all_printed others d valid.2)) (λ lines at rest next. refl) name valid.0)
+    (append_assoc (constraint_name_tokens name) (reference_tokens reference) (all_tokens others))))
 
-  all_printed : (found : List ColumnConstraint) (d : Bool) → AreConstraints found d → ArePrinted d found
-  all_printed [] d valid = nothing_printed d
-  all_printed (NotNull ∷ others) d valid = not_null_printed d others (all_printed others d valid)
-  all_printed (Default value ∷ others) d valid =
-      rw valid.0 (others_printed false (Default value ∷ others) (default_prints value others valid.1 (all_printed others true valid.2)))
-  all_printed (PrimaryKey name ∷ others) d valid =
-      others_printed d (PrimaryKey name ∷ others)
-      (no_default d (PrimaryKey name ∷ others) (all_tokens (PrimaryKey name ∷ others))
-      (prints_as
-      (named_prints d (λ name. PrimaryKey name ∷ others) (Said (codes "PRIMARY") ∷ Said (codes "KEY") ∷ all_tokens others) (primary_prints d others (all_printed others d valid.1))
-      (λ lines at rest next. refl) name valid.0) (append_assoc (constraint_name_tokens name) (Said (codes "PRIMARY") ∷ Said (codes "KEY") ∷ []) (all_tokens others))))
-  all_printed (Unique name ∷ others) d valid =
-      others_printed d (Unique name ∷ others)
-      (no_default d (Unique name ∷ others) (all_tokens (Unique name ∷ others))
-      (prints_as
-      (named_prints d (λ name. Unique name ∷ others) (Said (codes "UNIQUE") ∷ all_tokens others) (unique_prints d others (all_printed others d valid.1))
-      (λ lines at rest next. refl) name valid.0) (append_assoc (constraint_name_tokens name) (Said (codes "UNIQUE") ∷ []) (all_tokens others))))
-  all_printed (References name reference ∷ others) d valid =
-      others_printed d (References name reference ∷ others)
-      (no_default d (References name reference ∷ others) (all_tokens (References name reference ∷ others))
-      (prints_as
-      (named_prints d (λ name. References name reference ∷ others) (reference_tokens reference ++ all_tokens others)
-      (references_print d reference others valid.1 (all_printed others d valid.2)) (λ lines at rest next. refl) name valid.0)
-      (append_assoc (constraint_name_tokens name) (reference_tokens reference) (all_tokens others))))
-
-  -- the constraints of a column, as they are printed
-  pub constraints_print : (d : Bool) (found : List ColumnConstraint) → AreConstraints found d → Prints (constraints d) found (flat_map column_constraint found) Symbol_next
-  constraints_print d found valid = call_prints d found (all_printed found d valid)
+-- the constraints of a column, as they are printed
+pub constraints_print : (d : Bool) (found : List ColumnConstraint) → AreConstraints found d → Prints (constraints d) found (flat_map column_constraint found) Symbol_next
+constraints_print d found valid = call_prints d found (all_printed found d valid)

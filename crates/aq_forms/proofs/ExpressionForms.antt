@@ -17,6 +17,7 @@ use Rattle.aq_texts.specs.Written.{Written, say, Mark, Sign}
 use Rattle.aq_texts.specs.Canon.{Operand, operand, printed, expression as expression_tokens, comparison as comparison_token, atom as an_atom, operation as an_operation}
 use Rattle.aq_texts.proofs.Expressions.{negation_is, product_is, sum_is, difference_is, comparison_is, null_test_is, not_null_test_is, distinct_test_is, not_distinct_test_is, not_is, conjunction_is, disjunction_is}
 use Rattle.aq_forms.proofs.Combining.{IsFree, Anything, done_free, says_free, word_free, symbol_free, minus_free, both_any, behind_word, behind_mark, mapped_free, left_free, right_free, some_free, parentheses_any}
+use Rattle.aq_forms.proofs.Reading.{called_free}
 use Rattle.aq_forms.proofs.ExpressionLevels.{IsPrinted, one_more, one_before, atom_is_signed, atom_is_product, atom_is_sum, atom_is_comparison, atom_is_test, atom_is_negation, atom_is_conjunction, atom_is_expression, signed_is_expression, product_is_expression, sum_is_expression, comparison_is_expression, test_is_expression, negation_is_expression, conjunction_is_expression}
 
 -- An expression is printed freely as a whole, and as an operand, where it may stand in parentheses.
@@ -141,147 +142,146 @@ module _ (scope : Scope) where
 
 -- ---- the forms
 
-module _
-    (call_free :
-    (scope : Scope) (e : Expr) (ws : List Written) (Behind : List PlacedLexeme → Type 0) → IsFree (rules (Expression scope)) e ws Behind
-    → IsFree (Call (Expression scope) (λ e. e)) e ws Behind)
-    (scope : Scope)
-  where
-    -- an operation stands in parentheses where it is an operand
-    operation_printable : (e : Expr) (tokens : List Written) → printed e ≡ an_operation tokens → IsPrinted (expression scope) e tokens → Printable scope e
-    unfolding atom rules
-    operation_printable e tokens is free =
-        let called : IsPrinted (Call (Expression scope) (λ e. e)) e tokens = call_free scope e tokens Anything free in
-        let stands : IsPrinted (atom scope) e (operand (an_operation tokens)) =
-        left_free (Mark_kind OpenParen ∷ []) (in_parentheses (Call (Expression scope) (λ e. e))) (plain_atom scope) e (operand (an_operation tokens)) Anything
-        (parentheses_any (Call (Expression scope) (λ e. e)) e tokens Anything called) in
-        record {
-          whole = subst (λ (o : Operand). IsPrinted (expression scope) e o.tokens) (sym is) free;
-          inner = subst (λ (o : Operand). IsPrinted (atom scope) e (operand o)) (sym is) stands;
-        }
+pub call_free : (scope : Scope) (e : Expr) (ws : List Written) (Behind : List PlacedLexeme → Type 0) → IsFree (rules (Expression scope)) e ws Behind
+    → IsFree (Call (Expression scope) (λ e. e)) e ws Behind
+call_free scope e ws Behind free = called_free (Expression scope) (λ e. e) e ws Behind free
 
-    pub negation_printable : (a : Expr) → Printable scope a → Printable scope (Negate a)
-    unfolding signed
-    negation_printable a first =
-        let free : IsPrinted (signed scope) (Negate a) (Sign ∷ operand (printed a)) =
-        one_before Negate (Mark_kind Minus ∷ []) (sign Minus) (atom scope) Sign a (operand (printed a)) (minus_free Anything) first.inner in
-        operation_printable (Negate a) (Sign ∷ operand (printed a)) (negation_is a) (signed_is_expression scope (Negate a) (Sign ∷ operand (printed a)) free)
+module _ (scope : Scope) where
+  -- an operation stands in parentheses where it is an operand
+  operation_printable : (e : Expr) (tokens : List Written) → printed e ≡ an_operation tokens → IsPrinted (expression scope) e tokens → Printable scope e
+  unfolding atom rules
+  operation_printable e tokens is free =
+      let called : IsPrinted (Call (Expression scope) (λ e. e)) e tokens = call_free scope e tokens Anything free in
+      let stands : IsPrinted (atom scope) e (operand (an_operation tokens)) =
+      left_free (Mark_kind OpenParen ∷ []) (in_parentheses (Call (Expression scope) (λ e. e))) (plain_atom scope) e (operand (an_operation tokens)) Anything
+      (parentheses_any (Call (Expression scope) (λ e. e)) e tokens Anything called) in
+      record {
+        whole = subst (λ (o : Operand). IsPrinted (expression scope) e o.tokens) (sym is) free;
+        inner = subst (λ (o : Operand). IsPrinted (atom scope) e (operand o)) (sym is) stands;
+      }
 
-    pub not_printable : (a : Expr) → Printable scope a → Printable scope (Not a)
-    unfolding negation
-    not_printable a first =
-        let free : IsPrinted (negation scope) (Not a) (say (codes "NOT") ∷ operand (printed a)) =
-        one_before Not (Keyword (codes "not") ∷ []) (word (codes "not")) (test scope) (say (codes "NOT")) a (operand (printed a))
-        (word_free (codes "NOT") (codes "not") Anything refl refl) (atom_is_test scope a (operand (printed a)) first.inner) in
-        operation_printable (Not a) (say (codes "NOT") ∷ operand (printed a)) (not_is a)
-        (negation_is_expression scope (Not a) (say (codes "NOT") ∷ operand (printed a)) free)
+  pub negation_printable : (a : Expr) → Printable scope a → Printable scope (Negate a)
+  unfolding signed
+  negation_printable a first =
+      let free : IsPrinted (signed scope) (Negate a) (Sign ∷ operand (printed a)) =
+      one_before Negate (Mark_kind Minus ∷ []) (sign Minus) (atom scope) Sign a (operand (printed a)) (minus_free Anything) first.inner in
+      operation_printable (Negate a) (Sign ∷ operand (printed a)) (negation_is a) (signed_is_expression scope (Negate a) (Sign ∷ operand (printed a)) free)
 
-    pub product_printable : (a b : Expr) → Printable scope a → Printable scope b → Printable scope (Multiply a b)
-    unfolding product
-    product_printable a b first second =
-        let tokens : List Written = operand (printed a) ++ (Mark Times ∷ operand (printed b)) in
-        let free : IsPrinted (product scope) (Multiply a b) tokens =
-        one_more Multiply (Mark_kind Times ∷ []) (signed scope) (sign Times ▸ signed scope) a b (operand (printed a)) (Mark Times ∷ operand (printed b))
-        (atom_is_signed scope a (operand (printed a)) first.inner)
-        (behind_mark Times (signed scope) b (operand (printed b)) Anything (atom_is_signed scope b (operand (printed b)) second.inner)) in
-        operation_printable (Multiply a b) tokens (product_is a b) (product_is_expression scope (Multiply a b) tokens free)
+  pub not_printable : (a : Expr) → Printable scope a → Printable scope (Not a)
+  unfolding negation
+  not_printable a first =
+      let free : IsPrinted (negation scope) (Not a) (say (codes "NOT") ∷ operand (printed a)) =
+      one_before Not (Keyword (codes "not") ∷ []) (word (codes "not")) (test scope) (say (codes "NOT")) a (operand (printed a))
+      (word_free (codes "NOT") (codes "not") Anything refl refl) (atom_is_test scope a (operand (printed a)) first.inner) in
+      operation_printable (Not a) (say (codes "NOT") ∷ operand (printed a)) (not_is a)
+      (negation_is_expression scope (Not a) (say (codes "NOT") ∷ operand (printed a)) free)
 
-    pub sum_printable : (a b : Expr) → Printable scope a → Printable scope b → Printable scope (Add a b)
-    unfolding sum
-    sum_printable a b first second =
-        let tokens : List Written = operand (printed a) ++ (Mark Plus ∷ operand (printed b)) in
-        let free : IsPrinted (sum scope) (Add a b) tokens =
-        one_more with_summand (Mark_kind Plus ∷ Mark_kind Minus ∷ []) (product scope) (summand scope) a (false, b) (operand (printed a)) (Mark Plus ∷ operand (printed b))
-        (atom_is_product scope a (operand (printed a)) first.inner)
-        (summand_free scope false (Mark Plus) b (operand (printed b)) plus_free (atom_is_product scope b (operand (printed b)) second.inner)) in
-        operation_printable (Add a b) tokens (sum_is a b) (sum_is_expression scope (Add a b) tokens free)
+  pub product_printable : (a b : Expr) → Printable scope a → Printable scope b → Printable scope (Multiply a b)
+  unfolding product
+  product_printable a b first second =
+      let tokens : List Written = operand (printed a) ++ (Mark Times ∷ operand (printed b)) in
+      let free : IsPrinted (product scope) (Multiply a b) tokens =
+      one_more Multiply (Mark_kind Times ∷ []) (signed scope) (sign Times ▸ signed scope) a b (operand (printed a)) (Mark Times ∷ operand (printed b))
+      (atom_is_signed scope a (operand (printed a)) first.inner)
+      (behind_mark Times (signed scope) b (operand (printed b)) Anything (atom_is_signed scope b (operand (printed b)) second.inner)) in
+      operation_printable (Multiply a b) tokens (product_is a b) (product_is_expression scope (Multiply a b) tokens free)
 
-    pub difference_printable : (a b : Expr) → Printable scope a → Printable scope b → Printable scope (Subtract a b)
-    unfolding sum
-    difference_printable a b first second =
-        let tokens : List Written = operand (printed a) ++ (Mark Minus ∷ operand (printed b)) in
-        let free : IsPrinted (sum scope) (Subtract a b) tokens =
-        one_more with_summand (Mark_kind Plus ∷ Mark_kind Minus ∷ []) (product scope) (summand scope) a (true, b) (operand (printed a)) (Mark Minus ∷ operand (printed b))
-        (atom_is_product scope a (operand (printed a)) first.inner)
-        (summand_free scope true (Mark Minus) b (operand (printed b)) minus_sign_free (atom_is_product scope b (operand (printed b)) second.inner)) in
-        operation_printable (Subtract a b) tokens (difference_is a b) (sum_is_expression scope (Subtract a b) tokens free)
+  pub sum_printable : (a b : Expr) → Printable scope a → Printable scope b → Printable scope (Add a b)
+  unfolding sum
+  sum_printable a b first second =
+      let tokens : List Written = operand (printed a) ++ (Mark Plus ∷ operand (printed b)) in
+      let free : IsPrinted (sum scope) (Add a b) tokens =
+      one_more with_summand (Mark_kind Plus ∷ Mark_kind Minus ∷ []) (product scope) (summand scope) a (false, b) (operand (printed a)) (Mark Plus ∷ operand (printed b))
+      (atom_is_product scope a (operand (printed a)) first.inner)
+      (summand_free scope false (Mark Plus) b (operand (printed b)) plus_free (atom_is_product scope b (operand (printed b)) second.inner)) in
+      operation_printable (Add a b) tokens (sum_is a b) (sum_is_expression scope (Add a b) tokens free)
 
-    pub comparison_printable : (a : Expr) (found : Comparison) (b : Expr) → Printable scope a → Printable scope b → Printable scope (Compare a found b)
-    unfolding comparison
-    comparison_printable a found b first second =
-        let tokens : List Written = operand (printed a) ++ (comparison_token found ∷ operand (printed b)) in
-        let right : Rule (Comparison × Expr) = Both (λ sign right. (sign, right)) comparison_sign (sum scope) in
-        let free : IsPrinted (comparison scope) (Compare a found b) tokens =
-        both_any compared (sum scope) (optional comparison_signs right) a (Some (found, b)) (operand (printed a)) (comparison_token found ∷ operand (printed b)) Anything
-        (atom_is_sum scope a (operand (printed a)) first.inner)
-        (some_free comparison_signs right (found, b) (comparison_token found ∷ operand (printed b)) Anything
-        (both_any (λ sign right. (sign, right)) comparison_sign (sum scope) found b (comparison_token found ∷ []) (operand (printed b)) Anything (comparison_sign_free found)
-        (atom_is_sum scope b (operand (printed b)) second.inner))) in
-        operation_printable (Compare a found b) tokens (comparison_is a found b) (comparison_is_expression scope (Compare a found b) tokens free)
+  pub difference_printable : (a b : Expr) → Printable scope a → Printable scope b → Printable scope (Subtract a b)
+  unfolding sum
+  difference_printable a b first second =
+      let tokens : List Written = operand (printed a) ++ (Mark Minus ∷ operand (printed b)) in
+      let free : IsPrinted (sum scope) (Subtract a b) tokens =
+      one_more with_summand (Mark_kind Plus ∷ Mark_kind Minus ∷ []) (product scope) (summand scope) a (true, b) (operand (printed a)) (Mark Minus ∷ operand (printed b))
+      (atom_is_product scope a (operand (printed a)) first.inner)
+      (summand_free scope true (Mark Minus) b (operand (printed b)) minus_sign_free (atom_is_product scope b (operand (printed b)) second.inner)) in
+      operation_printable (Subtract a b) tokens (difference_is a b) (sum_is_expression scope (Subtract a b) tokens free)
 
-    pub null_test_printable : (a : Expr) → Printable scope a → Printable scope (IsNull a)
-    unfolding test
-    null_test_printable a first =
-        let tokens : List Written = operand (printed a) ++ (say (codes "IS") ∷ say (codes "NULL") ∷ []) in
-        let free : IsPrinted (test scope) (IsNull a) tokens =
-        one_more tested (Keyword (codes "is") ∷ []) (comparison scope) (is_test scope) a (false, None) (operand (printed a)) (say (codes "IS") ∷ say (codes "NULL") ∷ [])
-        (atom_is_comparison scope a (operand (printed a)) first.inner)
-        (is_free scope false None [] (say (codes "NULL") ∷ []) not_negated_free (null_free scope)) in
-        operation_printable (IsNull a) tokens (null_test_is a) (test_is_expression scope (IsNull a) tokens free)
+  pub comparison_printable : (a : Expr) (found : Comparison) (b : Expr) → Printable scope a → Printable scope b → Printable scope (Compare a found b)
+  unfolding comparison
+  comparison_printable a found b first second =
+      let tokens : List Written = operand (printed a) ++ (comparison_token found ∷ operand (printed b)) in
+      let right : Rule (Comparison × Expr) = Both (λ sign right. (sign, right)) comparison_sign (sum scope) in
+      let free : IsPrinted (comparison scope) (Compare a found b) tokens =
+      both_any compared (sum scope) (optional comparison_signs right) a (Some (found, b)) (operand (printed a)) (comparison_token found ∷ operand (printed b)) Anything
+      (atom_is_sum scope a (operand (printed a)) first.inner)
+      (some_free comparison_signs right (found, b) (comparison_token found ∷ operand (printed b)) Anything
+      (both_any (λ sign right. (sign, right)) comparison_sign (sum scope) found b (comparison_token found ∷ []) (operand (printed b)) Anything (comparison_sign_free found)
+      (atom_is_sum scope b (operand (printed b)) second.inner))) in
+      operation_printable (Compare a found b) tokens (comparison_is a found b) (comparison_is_expression scope (Compare a found b) tokens free)
 
-    pub not_null_test_printable : (a : Expr) → Printable scope a → Printable scope (IsNotNull a)
-    unfolding test
-    not_null_test_printable a first =
-        let tokens : List Written = operand (printed a) ++ (say (codes "IS") ∷ say (codes "NOT") ∷ say (codes "NULL") ∷ []) in
-        let free : IsPrinted (test scope) (IsNotNull a) tokens =
-        one_more tested (Keyword (codes "is") ∷ []) (comparison scope) (is_test scope) a (true, None)
-        (operand (printed a)) (say (codes "IS") ∷ say (codes "NOT") ∷ say (codes "NULL") ∷ [])
-        (atom_is_comparison scope a (operand (printed a)) first.inner)
-        (is_free scope true None (say (codes "NOT") ∷ []) (say (codes "NULL") ∷ []) negated_free (null_free scope)) in
-        operation_printable (IsNotNull a) tokens (not_null_test_is a) (test_is_expression scope (IsNotNull a) tokens free)
+  pub null_test_printable : (a : Expr) → Printable scope a → Printable scope (IsNull a)
+  unfolding test
+  null_test_printable a first =
+      let tokens : List Written = operand (printed a) ++ (say (codes "IS") ∷ say (codes "NULL") ∷ []) in
+      let free : IsPrinted (test scope) (IsNull a) tokens =
+      one_more tested (Keyword (codes "is") ∷ []) (comparison scope) (is_test scope) a (false, None) (operand (printed a)) (say (codes "IS") ∷ say (codes "NULL") ∷ [])
+      (atom_is_comparison scope a (operand (printed a)) first.inner)
+      (is_free scope false None [] (say (codes "NULL") ∷ []) not_negated_free (null_free scope)) in
+      operation_printable (IsNull a) tokens (null_test_is a) (test_is_expression scope (IsNull a) tokens free)
 
-    pub distinct_test_printable : (a b : Expr) → Printable scope a → Printable scope b → Printable scope (IsDistinct a b)
-    unfolding test
-    distinct_test_printable a b first second =
-        let tokens : List Written = operand (printed a) ++ (say (codes "IS") ∷ say (codes "DISTINCT") ∷ say (codes "FROM") ∷ operand (printed b)) in
-        let free : IsPrinted (test scope) (IsDistinct a b) tokens =
-        one_more tested (Keyword (codes "is") ∷ []) (comparison scope) (is_test scope) a (false, Some b)
-        (operand (printed a)) (say (codes "IS") ∷ say (codes "DISTINCT") ∷ say (codes "FROM") ∷ operand (printed b))
-        (atom_is_comparison scope a (operand (printed a)) first.inner)
-        (is_free scope false (Some b) [] (say (codes "DISTINCT") ∷ say (codes "FROM") ∷ operand (printed b)) not_negated_free
-        (distinct_free scope b (operand (printed b)) (atom_is_comparison scope b (operand (printed b)) second.inner))) in
-        operation_printable (IsDistinct a b) tokens (distinct_test_is a b) (test_is_expression scope (IsDistinct a b) tokens free)
+  pub not_null_test_printable : (a : Expr) → Printable scope a → Printable scope (IsNotNull a)
+  unfolding test
+  not_null_test_printable a first =
+      let tokens : List Written = operand (printed a) ++ (say (codes "IS") ∷ say (codes "NOT") ∷ say (codes "NULL") ∷ []) in
+      let free : IsPrinted (test scope) (IsNotNull a) tokens =
+      one_more tested (Keyword (codes "is") ∷ []) (comparison scope) (is_test scope) a (true, None)
+      (operand (printed a)) (say (codes "IS") ∷ say (codes "NOT") ∷ say (codes "NULL") ∷ [])
+      (atom_is_comparison scope a (operand (printed a)) first.inner)
+      (is_free scope true None (say (codes "NOT") ∷ []) (say (codes "NULL") ∷ []) negated_free (null_free scope)) in
+      operation_printable (IsNotNull a) tokens (not_null_test_is a) (test_is_expression scope (IsNotNull a) tokens free)
 
-    pub not_distinct_test_printable : (a b : Expr) → Printable scope a → Printable scope b → Printable scope (IsNotDistinct a b)
-    unfolding test
-    not_distinct_test_printable a b first second =
-        let tokens : List Written = operand (printed a) ++ (say (codes "IS") ∷ say (codes "NOT") ∷ say (codes "DISTINCT") ∷ say (codes "FROM") ∷ operand (printed b)) in
-        let free : IsPrinted (test scope) (IsNotDistinct a b) tokens =
-        one_more tested (Keyword (codes "is") ∷ []) (comparison scope) (is_test scope) a (true, Some b)
-        (operand (printed a)) (say (codes "IS") ∷ say (codes "NOT") ∷ say (codes "DISTINCT") ∷ say (codes "FROM") ∷ operand (printed b))
-        (atom_is_comparison scope a (operand (printed a)) first.inner)
-        (is_free scope true (Some b) (say (codes "NOT") ∷ []) (say (codes "DISTINCT") ∷ say (codes "FROM") ∷ operand (printed b)) negated_free
-        (distinct_free scope b (operand (printed b)) (atom_is_comparison scope b (operand (printed b)) second.inner))) in
-        operation_printable (IsNotDistinct a b) tokens (not_distinct_test_is a b) (test_is_expression scope (IsNotDistinct a b) tokens free)
+  pub distinct_test_printable : (a b : Expr) → Printable scope a → Printable scope b → Printable scope (IsDistinct a b)
+  unfolding test
+  distinct_test_printable a b first second =
+      let tokens : List Written = operand (printed a) ++ (say (codes "IS") ∷ say (codes "DISTINCT") ∷ say (codes "FROM") ∷ operand (printed b)) in
+      let free : IsPrinted (test scope) (IsDistinct a b) tokens =
+      one_more tested (Keyword (codes "is") ∷ []) (comparison scope) (is_test scope) a (false, Some b)
+      (operand (printed a)) (say (codes "IS") ∷ say (codes "DISTINCT") ∷ say (codes "FROM") ∷ operand (printed b))
+      (atom_is_comparison scope a (operand (printed a)) first.inner)
+      (is_free scope false (Some b) [] (say (codes "DISTINCT") ∷ say (codes "FROM") ∷ operand (printed b)) not_negated_free
+      (distinct_free scope b (operand (printed b)) (atom_is_comparison scope b (operand (printed b)) second.inner))) in
+      operation_printable (IsDistinct a b) tokens (distinct_test_is a b) (test_is_expression scope (IsDistinct a b) tokens free)
 
-    pub conjunction_printable : (a b : Expr) → Printable scope a → Printable scope b → Printable scope (And a b)
-    unfolding conjunction
-    conjunction_printable a b first second =
-        let tokens : List Written = operand (printed a) ++ (say (codes "AND") ∷ operand (printed b)) in
-        let free : IsPrinted (conjunction scope) (And a b) tokens =
-        one_more And (Keyword (codes "and") ∷ []) (negation scope) (word (codes "and") ▸ negation scope) a b
-        (operand (printed a)) (say (codes "AND") ∷ operand (printed b))
-        (atom_is_negation scope a (operand (printed a)) first.inner)
-        (behind_word (codes "AND") (codes "and") (negation scope) b (operand (printed b)) Anything refl refl (atom_is_negation scope b (operand (printed b)) second.inner)) in
-        operation_printable (And a b) tokens (conjunction_is a b) (conjunction_is_expression scope (And a b) tokens free)
+  pub not_distinct_test_printable : (a b : Expr) → Printable scope a → Printable scope b → Printable scope (IsNotDistinct a b)
+  unfolding test
+  not_distinct_test_printable a b first second =
+      let tokens : List Written = operand (printed a) ++ (say (codes "IS") ∷ say (codes "NOT") ∷ say (codes "DISTINCT") ∷ say (codes "FROM") ∷ operand (printed b)) in
+      let free : IsPrinted (test scope) (IsNotDistinct a b) tokens =
+      one_more tested (Keyword (codes "is") ∷ []) (comparison scope) (is_test scope) a (true, Some b)
+      (operand (printed a)) (say (codes "IS") ∷ say (codes "NOT") ∷ say (codes "DISTINCT") ∷ say (codes "FROM") ∷ operand (printed b))
+      (atom_is_comparison scope a (operand (printed a)) first.inner)
+      (is_free scope true (Some b) (say (codes "NOT") ∷ []) (say (codes "DISTINCT") ∷ say (codes "FROM") ∷ operand (printed b)) negated_free
+      (distinct_free scope b (operand (printed b)) (atom_is_comparison scope b (operand (printed b)) second.inner))) in
+      operation_printable (IsNotDistinct a b) tokens (not_distinct_test_is a b) (test_is_expression scope (IsNotDistinct a b) tokens free)
 
-    pub disjunction_printable : (a b : Expr) → Printable scope a → Printable scope b → Printable scope (Or a b)
-    unfolding expression
-    disjunction_printable a b first second =
-        let tokens : List Written = operand (printed a) ++ (say (codes "OR") ∷ operand (printed b)) in
-        let free : IsPrinted (expression scope) (Or a b) tokens =
-        one_more Or (Keyword (codes "or") ∷ []) (conjunction scope) (word (codes "or") ▸ conjunction scope) a b
-        (operand (printed a)) (say (codes "OR") ∷ operand (printed b))
-        (atom_is_conjunction scope a (operand (printed a)) first.inner)
-        (behind_word (codes "OR") (codes "or") (conjunction scope) b (operand (printed b)) Anything refl refl (atom_is_conjunction scope b (operand (printed b)) second.inner)) in
-        operation_printable (Or a b) tokens (disjunction_is a b) free
+  pub conjunction_printable : (a b : Expr) → Printable scope a → Printable scope b → Printable scope (And a b)
+  unfolding conjunction
+  conjunction_printable a b first second =
+      let tokens : List Written = operand (printed a) ++ (say (codes "AND") ∷ operand (printed b)) in
+      let free : IsPrinted (conjunction scope) (And a b) tokens =
+      one_more And (Keyword (codes "and") ∷ []) (negation scope) (word (codes "and") ▸ negation scope) a b
+      (operand (printed a)) (say (codes "AND") ∷ operand (printed b))
+      (atom_is_negation scope a (operand (printed a)) first.inner)
+      (behind_word (codes "AND") (codes "and") (negation scope) b (operand (printed b)) Anything refl refl (atom_is_negation scope b (operand (printed b)) second.inner)) in
+      operation_printable (And a b) tokens (conjunction_is a b) (conjunction_is_expression scope (And a b) tokens free)
+
+  pub disjunction_printable : (a b : Expr) → Printable scope a → Printable scope b → Printable scope (Or a b)
+  unfolding expression
+  disjunction_printable a b first second =
+      let tokens : List Written = operand (printed a) ++ (say (codes "OR") ∷ operand (printed b)) in
+      let free : IsPrinted (expression scope) (Or a b) tokens =
+      one_more Or (Keyword (codes "or") ∷ []) (conjunction scope) (word (codes "or") ▸ conjunction scope) a b
+      (operand (printed a)) (say (codes "OR") ∷ operand (printed b))
+      (atom_is_conjunction scope a (operand (printed a)) first.inner)
+      (behind_word (codes "OR") (codes "or") (conjunction scope) b (operand (printed b)) Anything refl refl (atom_is_conjunction scope b (operand (printed b)) second.inner)) in
+      operation_printable (Or a b) tokens (disjunction_is a b) free

@@ -111,30 +111,27 @@ session_unrefused s (inr (inr (inr (inr (inr derived))))) = block_unrefused s de
 
 -- ---- all statements of a session
 
-module _
-    (expression_free :
-    (scope : Scope) (e : Expr) (Behind : List PlacedLexeme → Type 0) → Derives (whole_expression scope) e → IsFree (whole_expression scope) e (expression e) Behind) where
-  pub session_statement_free : (s : Statement) → Derives supported_in_session s → IsFree supported_in_session s (statement s) Semicolon_next
-  unfolding supported_in_session
-  session_statement_free =
-      let in_set = Either (Keyword (codes "set") ∷ []) (mapped Set_statement set_constraints) block_statement in
-      let in_select = Either (Keyword (codes "select") ∷ []) (mapped Select_statement (select InStatement)) in_set in
-      let in_delete = Either (Keyword (codes "delete") ∷ []) (mapped Delete_statement (delete InStatement)) in_select in
-      let in_update = Either (Keyword (codes "update") ∷ []) (mapped Update_statement (update InStatement)) in_delete in
-      prints_either (Keyword (codes "insert") ∷ []) (mapped Insert_statement (insert InStatement)) in_update statement Semicolon_next
-      (prints_mapped Insert_statement (insert InStatement) insert_tokens statement Semicolon_next (λ s. refl) (insert_free expression_free InStatement))
-      (prints_either (Keyword (codes "update") ∷ []) (mapped Update_statement (update InStatement)) in_delete statement Semicolon_next
-      (prints_mapped Update_statement (update InStatement) update_tokens statement Semicolon_next (λ s. refl) (update_free expression_free InStatement))
-      (prints_either (Keyword (codes "delete") ∷ []) (mapped Delete_statement (delete InStatement)) in_select statement Semicolon_next
-      (prints_mapped Delete_statement (delete InStatement) delete_tokens statement Semicolon_next (λ s. refl) (delete_free expression_free InStatement))
-      (prints_either (Keyword (codes "select") ∷ []) (mapped Select_statement (select InStatement)) in_set statement Semicolon_next
-      (prints_mapped Select_statement (select InStatement) select_tokens statement Semicolon_next (λ s. refl) (select_free expression_free InStatement))
-      (prints_either (Keyword (codes "set") ∷ []) (mapped Set_statement set_constraints) block_statement statement Semicolon_next
-      (prints_mapped Set_statement set_constraints set_constraints_tokens statement Semicolon_next (λ s. refl)
-      (set_constraints_free Semicolon_next)) block_statement_free))))
+pub session_statement_free : (s : Statement) → Derives supported_in_session s → IsFree supported_in_session s (statement s) Semicolon_next
+unfolding supported_in_session
+session_statement_free =
+    let in_set = Either (Keyword (codes "set") ∷ []) (mapped Set_statement set_constraints) block_statement in
+    let in_select = Either (Keyword (codes "select") ∷ []) (mapped Select_statement (select InStatement)) in_set in
+    let in_delete = Either (Keyword (codes "delete") ∷ []) (mapped Delete_statement (delete InStatement)) in_select in
+    let in_update = Either (Keyword (codes "update") ∷ []) (mapped Update_statement (update InStatement)) in_delete in
+    prints_either (Keyword (codes "insert") ∷ []) (mapped Insert_statement (insert InStatement)) in_update statement Semicolon_next
+    (prints_mapped Insert_statement (insert InStatement) insert_tokens statement Semicolon_next (λ s. refl) (insert_free InStatement))
+    (prints_either (Keyword (codes "update") ∷ []) (mapped Update_statement (update InStatement)) in_delete statement Semicolon_next
+    (prints_mapped Update_statement (update InStatement) update_tokens statement Semicolon_next (λ s. refl) (update_free InStatement))
+    (prints_either (Keyword (codes "delete") ∷ []) (mapped Delete_statement (delete InStatement)) in_select statement Semicolon_next
+    (prints_mapped Delete_statement (delete InStatement) delete_tokens statement Semicolon_next (λ s. refl) (delete_free InStatement))
+    (prints_either (Keyword (codes "select") ∷ []) (mapped Select_statement (select InStatement)) in_set statement Semicolon_next
+    (prints_mapped Select_statement (select InStatement) select_tokens statement Semicolon_next (λ s. refl) (select_free InStatement))
+    (prints_either (Keyword (codes "set") ∷ []) (mapped Set_statement set_constraints) block_statement statement Semicolon_next
+    (prints_mapped Set_statement set_constraints set_constraints_tokens statement Semicolon_next (λ s. refl)
+    (set_constraints_free Semicolon_next)) block_statement_free))))
 
-  -- the same with the words that are refused before it
-  pub whole_session_statement_free : (s : Statement) → Derives session_statement s → IsFree session_statement s (statement s) Semicolon_next
-  unfolding session_statement
-  whole_session_statement_free s derived =
-      unless_free refused_in_session supported_in_session s (statement s) Semicolon_next (session_statement_free s derived) (session_unrefused s derived)
+-- the same with the words that are refused before it
+pub whole_session_statement_free : (s : Statement) → Derives session_statement s → IsFree session_statement s (statement s) Semicolon_next
+unfolding session_statement
+whole_session_statement_free s derived =
+    unless_free refused_in_session supported_in_session s (statement s) Semicolon_next (session_statement_free s derived) (session_unrefused s derived)

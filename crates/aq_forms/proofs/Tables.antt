@@ -28,7 +28,7 @@ use Rattle.aq_forms.proofs.Names.{IsNamed, name_named, public_named}
 use Rattle.aq_forms.proofs.Composing.{Rest, Prints, Symbol_next, semicolon_is_symbol, before_symbol, nothing_prints, says_prints, word_then, both_print_any, mapped_prints, left_prints, right_prints, unless_prints, prints_before, end_prints, parentheses_print}
 use Rattle.aq_forms.proofs.Validity.{both_valid, then_valid, first_valid, parentheses_valid, Listed, listed_valid, listed_prints, name_prints, public_prints}
 use Rattle.aq_forms.proofs.Constraints.{IsTableConstraint, table_constraint_valid, table_constraint_prints}
-use Rattle.aq_forms.proofs.ColumnConstraints.{AreConstraints, constraints_valid, CalledFree, constraints_print}
+use Rattle.aq_forms.proofs.ColumnConstraints.{AreConstraints, constraints_valid, constraints_print}
 
 -- ---- what the rules give
 
@@ -168,48 +168,47 @@ change_prints s (made, e, named, valid) =
 pub alter_table_free : (s : Statement) → Derives alter_table s → IsFree alter_table s (statement s) Semicolon_next
 alter_table_free s derived = (prints_before (change_prints s (change_valid s derived)) semicolon_is_symbol).free
 
-module _ (called_free : CalledFree) where
-  column_prints : (text : Bytes) (k : Kind) (found : List ColumnConstraint) → IsNamed text → AreConstraints found false
-      → Prints column_item (Column text k found) (table_item (Column text k found)) Symbol_next
-  unfolding column_item
-  column_prints text k found named valid =
-      both_print_any {f = λ text described. Column text described.0 described.1} {ws = Name text ∷ []} (name_prints text Anything named)
-      (both_print_any {ws = kind_token k ∷ []} (kind_prints k Anything) (constraints_print called_free false found valid))
+column_prints : (text : Bytes) (k : Kind) (found : List ColumnConstraint) → IsNamed text → AreConstraints found false
+    → Prints column_item (Column text k found) (table_item (Column text k found)) Symbol_next
+unfolding column_item
+column_prints text k found named valid =
+    both_print_any {f = λ text described. Column text described.0 described.1} {ws = Name text ∷ []} (name_prints text Anything named)
+    (both_print_any {ws = kind_token k ∷ []} (kind_prints k Anything) (constraints_print false found valid))
 
-  item_prints : (x : TableItem) → IsItem x → Prints item x (table_item x) Symbol_next
-  unfolding item
-  item_prints (Column text k found) valid = unless_prints (right_prints (column_prints text k found valid.0 valid.1)) (item_begins (Column text k found) valid)
-  item_prints (Constraint c) valid = unless_prints (left_prints (mapped_prints {f = Constraint} (table_constraint_prints c valid))) (item_begins (Constraint c) valid)
+item_prints : (x : TableItem) → IsItem x → Prints item x (table_item x) Symbol_next
+unfolding item
+item_prints (Column text k found) valid = unless_prints (right_prints (column_prints text k found valid.0 valid.1)) (item_begins (Column text k found) valid)
+item_prints (Constraint c) valid = unless_prints (left_prints (mapped_prints {f = Constraint} (table_constraint_prints c valid))) (item_begins (Constraint c) valid)
 
-  items_print : (xs : List TableItem) → Listed IsItem xs → Prints items xs (listed_tokens table_item xs) Symbol_next
-  unfolding items
-  items_print xs valid = listed_prints item IsItem table_item Symbol_next item_prints xs Symbol_next valid (λ line rest. (line, Comma, rest, refl)) (λ rest next. next)
+items_print : (xs : List TableItem) → Listed IsItem xs → Prints items xs (listed_tokens table_item xs) Symbol_next
+unfolding items
+items_print xs valid = listed_prints item IsItem table_item Symbol_next item_prints xs Symbol_next valid (λ line rest. (line, Comma, rest, refl)) (λ rest next. next)
 
-  -- behind CREATE
-  abbrev pub created_tokens : Creation → List Written
-  created_tokens made = Said (codes "TABLE") ∷ Name made.table ∷ in_parentheses_tokens (listed_tokens table_item made.items)
+-- behind CREATE
+abbrev pub created_tokens : Creation → List Written
+created_tokens made = Said (codes "TABLE") ∷ Name made.table ∷ in_parentheses_tokens (listed_tokens table_item made.items)
 
-  creation_prints : (made : Creation) → IsNamed made.table → Listed IsItem made.items → Prints create_table (CreateTable made) (created_tokens made) Symbol_next
-  unfolding create_table
-  creation_prints made named valid =
-      word_then refl
-      (both_print_any {f = λ table items. CreateTable (record { table = table; items = items })} {ws = Name made.table ∷ []} (public_prints made.table Anything named)
-      (end_prints (parentheses_print (items_print made.items valid) (λ line rest. (line, CloseParen, rest, refl))) no_refused_behind))
+creation_prints : (made : Creation) → IsNamed made.table → Listed IsItem made.items → Prints create_table (CreateTable made) (created_tokens made) Symbol_next
+unfolding create_table
+creation_prints made named valid =
+    word_then refl
+    (both_print_any {f = λ table items. CreateTable (record { table = table; items = items })} {ws = Name made.table ∷ []} (public_prints made.table Anything named)
+    (end_prints (parentheses_print (items_print made.items valid) (λ line rest. (line, CloseParen, rest, refl))) no_refused_behind))
 
-  -- it is printed with CREATE, and the rule with the tokens behind that
-  pub created_table_free : (s : Statement) → Derives create_table s
-      → (tokens : List Written) × (statement s ≡ Said (codes "CREATE") ∷ tokens) × IsFree create_table s tokens Semicolon_next
-  created_table_free s derived = created s (creation_valid s derived)
-    where
-      created : (s : Statement) → IsCreation s → (tokens : List Written) × (statement s ≡ Said (codes "CREATE") ∷ tokens) × IsFree create_table s tokens Semicolon_next
-      created s (made, e, named, valid) = (
-        created_tokens made,
-        ap statement e,
-        subst (λ (s : Statement). IsFree create_table s (created_tokens made) Semicolon_next) (sym e) (prints_before (creation_prints made named valid) semicolon_is_symbol).free,
-      )
+-- it is printed with CREATE, and the rule with the tokens behind that
+pub created_table_free : (s : Statement) → Derives create_table s
+    → (tokens : List Written) × (statement s ≡ Said (codes "CREATE") ∷ tokens) × IsFree create_table s tokens Semicolon_next
+created_table_free s derived = created s (creation_valid s derived)
+  where
+    created : (s : Statement) → IsCreation s → (tokens : List Written) × (statement s ≡ Said (codes "CREATE") ∷ tokens) × IsFree create_table s tokens Semicolon_next
+    created s (made, e, named, valid) = (
+      created_tokens made,
+      ap statement e,
+      subst (λ (s : Statement). IsFree create_table s (created_tokens made) Semicolon_next) (sym e) (prints_before (creation_prints made named valid) semicolon_is_symbol).free,
+    )
 
-  pub create_table_free : (s : Statement) → Derives create_table s → IsFree (word (codes "create") ▸ create_table) s (statement s) Semicolon_next
-  create_table_free s derived =
-      let found = created_table_free s derived in
-      subst (λ (tokens : List Written). IsFree (word (codes "create") ▸ create_table) s tokens Semicolon_next) (sym found.1)
-      (behind_word (codes "CREATE") (codes "create") create_table s found.0 Semicolon_next refl refl found.2)
+pub create_table_free : (s : Statement) → Derives create_table s → IsFree (word (codes "create") ▸ create_table) s (statement s) Semicolon_next
+create_table_free s derived =
+    let found = created_table_free s derived in
+    subst (λ (tokens : List Written). IsFree (word (codes "create") ▸ create_table) s tokens Semicolon_next) (sym found.1)
+    (behind_word (codes "CREATE") (codes "create") create_table s found.0 Semicolon_next refl refl found.2)
