@@ -9,9 +9,6 @@ use Rattle.aq_lex.specs.Lexemes.{PlacedLexeme}
 use Rattle.aq_grammar.specs.Terminals.{Keyword}
 use Rattle.aq_grammar.specs.Rules.{Rule, Both, Either}
 use Rattle.aq_grammar.specs.Forms.{word, sign, ◌▸◌, ◌◂◌, public_name}
-use Rattle.aq_grammar.specs.Expressions.{whole_expression}
-use Rattle.aq_grammar.specs.declared.scope.Scope.{Scope}
-use Rattle.aq_base.specs.declared.expr.Expr.{Expr}
 use Rattle.aq_grammar.specs.Bodies.{code}
 use Rattle.aq_grammar.specs.Triggers.{no_arguments, language, create_function}
 use Rattle.aq_texts.specs.Written.{Written, Said, say, Name, Mark, Call}
@@ -81,30 +78,26 @@ heading_named : (name : Bytes) → Derives heading name → IsNamed name
 unfolding heading
 heading_named name (a, _, (b, _, (c, _, derived, _, e2), _, e1), _, e0) = subst IsNamed (sym (e0 ∙ (e1 ∙ e2))) (public_named DerivesSome c derived)
 
-module _
-    (expression_free :
-    (scope : Scope) (e : Expr) (Behind : List PlacedLexeme → Type 0) → Derives (whole_expression scope) e → IsFree (whole_expression scope) e (canon.expression e) Behind)
-  where
-    function_free : (name : Bytes) (body : List BodyStatement) (Behind : List PlacedLexeme → Type 0) → IsNamed name → Derives code body → block_depth body ≤ 100
-        → IsFree create_function (function_of name body)
-        (say (codes "FUNCTION") ∷ (heading_tokens name ++ say (codes "LANGUAGE") ∷ say (codes "plpgsql") ∷ say (codes "AS") ∷ code_tokens body)) Behind
-    unfolding create_function function_of heading written_code code_tokens
-    function_free name body Behind named derived few =
-        behind_word (codes "FUNCTION") (codes "function") (Both function_of heading written_code) (function_of name body)
-        (heading_tokens name ++ say (codes "LANGUAGE") ∷ say (codes "plpgsql") ∷ say (codes "AS") ∷ code_tokens body) Behind refl refl
-        (both_any function_of heading written_code name body (heading_tokens name)
-        (say (codes "LANGUAGE") ∷ say (codes "plpgsql") ∷ say (codes "AS") ∷ code_tokens body) Behind (heading_free name named)
-        (written_code_free body Behind
-        (code_free expression_free body Behind derived few)))
+function_free : (name : Bytes) (body : List BodyStatement) (Behind : List PlacedLexeme → Type 0) → IsNamed name → Derives code body → block_depth body ≤ 100
+    → IsFree create_function (function_of name body)
+    (say (codes "FUNCTION") ∷ (heading_tokens name ++ say (codes "LANGUAGE") ∷ say (codes "plpgsql") ∷ say (codes "AS") ∷ code_tokens body)) Behind
+unfolding create_function function_of heading written_code code_tokens
+function_free name body Behind named derived few =
+    behind_word (codes "FUNCTION") (codes "function") (Both function_of heading written_code) (function_of name body)
+    (heading_tokens name ++ say (codes "LANGUAGE") ∷ say (codes "plpgsql") ∷ say (codes "AS") ∷ code_tokens body) Behind refl refl
+    (both_any function_of heading written_code name body (heading_tokens name)
+    (say (codes "LANGUAGE") ∷ say (codes "plpgsql") ∷ say (codes "AS") ∷ code_tokens body) Behind (heading_free name named)
+    (written_code_free body Behind
+    (code_free body Behind derived few)))
 
-    pub create_function_free : (s : Statement) (Behind : List PlacedLexeme → Type 0) → Derives create_function s → HasRoom s → IsCreated create_function s Behind
-    unfolding create_function function_of heading heading_tokens written_code code_tokens
-    create_function_free s Behind (_, inner, _, (name, body, name_derived, body_derived, b), a) few =
-        let e : s ≡ function_of name body = a ∙ b in
-        let tokens = say (codes "FUNCTION") ∷ (heading_tokens name ++ say (codes "LANGUAGE") ∷ say (codes "plpgsql") ∷ say (codes "AS") ∷ code_tokens body) in
-        record {
-          tokens = tokens;
-          is = ap canon.statement e;
-          free = subst (λ (s : Statement). IsFree create_function s tokens Behind) (sym e)
-              (function_free name body Behind (heading_named name name_derived) (written_code_derived body body_derived) (subst HasRoom e few));
-        }
+pub create_function_free : (s : Statement) (Behind : List PlacedLexeme → Type 0) → Derives create_function s → HasRoom s → IsCreated create_function s Behind
+unfolding create_function function_of heading heading_tokens written_code code_tokens
+create_function_free s Behind (_, inner, _, (name, body, name_derived, body_derived, b), a) few =
+    let e : s ≡ function_of name body = a ∙ b in
+    let tokens = say (codes "FUNCTION") ∷ (heading_tokens name ++ say (codes "LANGUAGE") ∷ say (codes "plpgsql") ∷ say (codes "AS") ∷ code_tokens body) in
+    record {
+      tokens = tokens;
+      is = ap canon.statement e;
+      free = subst (λ (s : Statement). IsFree create_function s tokens Behind) (sym e)
+          (function_free name body Behind (heading_named name name_derived) (written_code_derived body body_derived) (subst HasRoom e few));
+    }
