@@ -37,3 +37,4 @@ pub mod Events
 pub mod TransitionTables
 pub mod Triggers
 pub mod Rooms
+pub mod SetupStatements
