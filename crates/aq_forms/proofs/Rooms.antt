@@ -16,7 +16,7 @@ use Rattle.aq_grammar.specs.Calls.{called_within}
 use Rattle.aq_grammar.specs.Nonterminals.{rules, reads_called, reads}
 use Rattle.aq_grammar.specs.Forms.{sign, ◌▸◌, ◌◂◌, mapped, optional}
 use Rattle.aq_grammar.specs.Changes.{insert, update, delete, set_constraints}
-use Rattle.aq_grammar.specs.Bodies.{if_limit, unsupported_statements, refused_in_code, less_room, inner_block, branch, else_if, otherwise, if_of, if_statement, raise, return_, body_statement, body_words, block, code}
+use Rattle.aq_grammar.specs.Bodies.{if_limit, unsupported_statements, refused_in_code, less_room, inner_block, else_if, otherwise, if_of, if_statement, raise, return_, body_statement, body_words, block, code}
 use Rattle.aq_grammar.specs.Triggers.{create_function, create_trigger, create_constraint_trigger}
 use Rattle.aq_grammar.specs.Tables.{create_table, alter_table}
 use Rattle.aq_grammar.specs.Statements.{created, supported_in_setup}

@@ -4,7 +4,7 @@ use Rattle.aq_base.specs.declared.table.AlterTable.{AlterTable as Alteration}
 use Rattle.aq_base.specs.declared.statement.Statement.{Statement}
 use Rattle.aq_base.specs.declared.statement.Statement.TheVariants.{AlterTable}
 use Rattle.aq_grammar.specs.Terminals.{Keyword}
-use Rattle.aq_grammar.specs.Rules.{Rule, Either, refused}
+use Rattle.aq_grammar.specs.Rules.{Rule, Either}
 use Rattle.aq_grammar.specs.Forms.{word, ◌▸◌}
 use Rattle.aq_grammar.specs.Tables.{create_table, alter_table}
 use Rattle.aq_grammar.specs.Triggers.{create_function, create_trigger, create_constraint_trigger}
