@@ -3,3 +3,4 @@ pub mod Repeated
 pub mod Statements
 pub mod Sessions
 pub mod Schedules
+pub mod Scripts
