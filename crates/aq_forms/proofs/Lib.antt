@@ -29,3 +29,12 @@ pub mod Timing
 pub mod Constraints
 pub mod ColumnConstraints
 pub mod Tables
+pub mod BodyForms
+pub mod Depths
+pub mod Bodies
+pub mod Functions
+pub mod Events
+pub mod TransitionTables
+pub mod Triggers
+pub mod Rooms
+pub mod SetupStatements
