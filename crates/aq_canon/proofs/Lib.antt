@@ -4,4 +4,5 @@ pub mod Statements
 pub mod Sessions
 pub mod Schedules
 pub mod Scripts
-pub mod Laws
+pub mod ReadAgain
+pub mod Canonical

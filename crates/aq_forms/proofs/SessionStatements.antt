@@ -100,7 +100,7 @@ block_unrefused s (inr (inr (inr (inr (inr (inl (_, _, _, _, e))))))) = subst Is
 block_unrefused s (inr (inr (inr (inr (inr (inr (inl (_, found, _, (text, _, _, _, d), e)))))))) = subst Is_unrefused (sym (e ∙ d)) (λ lines at rest behind. refl)
 block_unrefused s (inr (inr (inr (inr (inr (inr (inr (_, found, _, (text, _, _, _, d), e)))))))) = subst Is_unrefused (sym (e ∙ d)) (λ lines at rest behind. refl)
 
-session_unrefused : (s : Statement) → Derives supported_in_session s → Is_unrefused s
+pub session_unrefused : (s : Statement) → Derives supported_in_session s → Is_unrefused s
 unfolding supported_in_session
 session_unrefused s (inl (inserted, _, _, _, e)) = subst Is_unrefused (sym e) (λ lines at rest behind. refl)
 session_unrefused s (inr (inl (updated, _, _, _, e))) = subst Is_unrefused (sym e) (λ lines at rest behind. refl)

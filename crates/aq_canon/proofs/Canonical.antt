@@ -14,7 +14,7 @@ use Rattle.aq_grammar.specs.Places.{begins_subquery, subquery_fault}
 use Rattle.aq_grammar.specs.Stopping.{one_before, last_tokens, refused_place}
 use Rattle.aq_grammar.specs.declared.place.RefusedPlace.{RefusedPlace}
 use Rattle.aq_grammar.proofs.RefusedAt.{pair_within}
-use Rattle.aq_script.specs.Sections.{in_setup, in_session, SpellsScript}
+use Rattle.aq_script.specs.Sections.{SpellsScript}
 use Rattle.aq_script.specs.Parsing.{read_script, at_end, whole_script}
 use Rattle.aq_script.specs.Reading.{Reads, IsRefusedLine}
 use Rattle.aq_script.specs.RefusedLines.{IsRefusedPlace, line_or}
@@ -28,10 +28,10 @@ use Rattle.aq_forms.proofs.Laid.{laid}
 use Rattle.aq_forms.proofs.Free.{IsLimit, ReadsOrLimit}
 use Rattle.aq_forms.proofs.Texts.{lexed_texts}
 use Rattle.aq_forms.proofs.PrintedLines.{lines_lex}
-use Rattle.aq_canon.specs.Same.{AreSame}
+use Rattle.aq_canon.specs.Same.{script_alone, AreSame}
 use Rattle.aq_canon.specs.Laws.{PassesNoLimit, ReadsBack, OneScript}
 use Rattle.aq_canon.proofs.Outcomes.{bind_parts}
-use Rattle.aq_canon.proofs.Statements.{AreReadAgain}
+use Rattle.aq_canon.proofs.ReadAgain.{setup_statements_again, session_statements_again}
 use Rattle.aq_canon.proofs.Scripts.{script_tokens, tokens_are, ScriptAgain, script_again}
 
 -- nothing is left behind a whole script
@@ -71,42 +71,41 @@ place_is tokens rest fault none = by_test (nat_lt (length rest) (length tokens) 
     by_test false e = refl
     by_test true e = absurd (none (subquery_at tokens _ (and_parts (nat_lt (length rest) (length tokens)) (begins_subquery (one_before tokens rest)) e).1))
 
-module _ (setup : AreReadAgain in_setup) (session : AreReadAgain in_session) where
-  -- a text that stops at a limit is refused for it
-  limit_refused : (bytes : List ℕ) (tokens : List Token) (script : Script) → Lexes bytes tokens → SpellsScript script (lexemes bytes tokens) → (fault : SqlFault) (rest : List PlacedLexeme)
-      → whole_script (lexemes bytes tokens) ≡ Stop (Refused fault) rest → IsLimit fault → PassesNoLimit bytes → ⊥
-  limit_refused bytes tokens script lexed spelled fault rest e limit none =
-      let u = lexemes bytes tokens in
-      let stops = whole_stopped u rest (Refused fault) e in
-      let found : RefusedPlace = record { left = length rest; fault = fault } in
-      let place : List PlacedLexeme × SqlFault = (rest, fault) in
-      let here : refused_place u (Refused fault) (last_tokens (length rest) u) ≡ place =
-      ap (refused_place u (Refused fault)) (last_is u stops.front rest stops.whole) ∙ place_is u rest fault (script_free script u spelled) in
-      let is_place : IsRefusedPlace u found =
-      place_found u rest (Refused fault) (length rest) found e refl (subst (λ (p : List PlacedLexeme × SqlFault). (length rest ≡ length p.0) × (fault ≡ p.1)) (sym here) (refl, refl)) in
-      none (line_or (line_at bytes (length bytes)) (last_tokens (length rest) u)) fault (line_of_place bytes tokens found lexed is_place) limit
+-- a text that stops at a limit is refused for it
+limit_refused : (bytes : List ℕ) (tokens : List Token) (script : Script) → Lexes bytes tokens → SpellsScript script (lexemes bytes tokens) → (fault : SqlFault) (rest : List PlacedLexeme)
+    → whole_script (lexemes bytes tokens) ≡ Stop (Refused fault) rest → IsLimit fault → PassesNoLimit bytes → ⊥
+limit_refused bytes tokens script lexed spelled fault rest e limit none =
+    let u = lexemes bytes tokens in
+    let stops = whole_stopped u rest (Refused fault) e in
+    let found : RefusedPlace = record { left = length rest; fault = fault } in
+    let place : List PlacedLexeme × SqlFault = (rest, fault) in
+    let here : refused_place u (Refused fault) (last_tokens (length rest) u) ≡ place =
+    ap (refused_place u (Refused fault)) (last_is u stops.front rest stops.whole) ∙ place_is u rest fault (script_free script u spelled) in
+    let is_place : IsRefusedPlace u found =
+    place_found u rest (Refused fault) (length rest) found e refl (subst (λ (p : List PlacedLexeme × SqlFault). (length rest ≡ length p.0) × (fault ≡ p.1)) (sym here) (refl, refl)) in
+    none (line_or (line_at bytes (length bytes)) (last_tokens (length rest) u)) fault (line_of_place bytes tokens found lexed is_place) limit
 
-  pub reads_back : ReadsBack
-  reads_back bytes script reads no_limit =
-      let u = lexemes bytes reads.tokens in
-      let read = whole_parts u script (script_is_read u script reads.spelled reads.clear) in
-      let texts = lexed_texts bytes reads.tokens reads.lexed in
-      let lines = (script_again setup session u script texts read (λ n. 0)).lines in
-      let (tokens, place, lexed, are) = lines_lex (script_lines script) lines in
-      let again = script_again setup session u script texts read place in
-      let tokens_is : lexemes (canon script) tokens ≡ laid place 0 (script_tokens script) = are ∙ ap (laid place 0) (tokens_are script) in
-      let spelled : SpellsScript again.found (lexemes (canon script) tokens) = subst (SpellsScript again.found) (sym tokens_is) again.spelled in
-      (again.found, by_outcome tokens lexed again.found spelled (subst (λ (v : List PlacedLexeme). ReadsOrLimit (read_script v) again.found []) (sym tokens_is) again.read), again.same)
-    where
-      by_outcome : (tokens : List Token) → Lexes (canon script) tokens → (found : Script) → SpellsScript found (lexemes (canon script) tokens)
-          → ReadsOrLimit (read_script (lexemes (canon script) tokens)) found [] → Reads (canon script) found
-      by_outcome tokens lexed found spelled (inl e) = reads_by (canon script) tokens found lexed (ap (λ (o : Outcome Script). o >>= at_end) e)
-      by_outcome tokens lexed found spelled (inr (fault, rest, e, limit)) =
-          absurd (limit_refused (canon script) tokens found lexed spelled fault rest (ap (λ (o : Outcome Script). o >>= at_end) e) limit no_limit)
+pub reads_back : ReadsBack
+reads_back bytes script reads no_limit =
+    let u = lexemes bytes reads.tokens in
+    let read = whole_parts u script (script_is_read u script reads.spelled reads.clear) in
+    let texts = lexed_texts bytes reads.tokens reads.lexed in
+    let lines = (script_again setup_statements_again session_statements_again u script texts read (λ n. 0)).lines in
+    let (tokens, place, lexed, are) = lines_lex (script_lines script) lines in
+    let again = script_again setup_statements_again session_statements_again u script texts read place in
+    let tokens_is : lexemes (canon script) tokens ≡ laid place 0 (script_tokens script) = are ∙ ap (laid place 0) (tokens_are script) in
+    let spelled : SpellsScript again.found (lexemes (canon script) tokens) = subst (SpellsScript again.found) (sym tokens_is) again.spelled in
+    (again.found, by_outcome tokens lexed again.found spelled (subst (λ (v : List PlacedLexeme). ReadsOrLimit (read_script v) again.found []) (sym tokens_is) again.read), again.same)
+  where
+    by_outcome : (tokens : List Token) → Lexes (canon script) tokens → (found : Script) → SpellsScript found (lexemes (canon script) tokens)
+        → ReadsOrLimit (read_script (lexemes (canon script) tokens)) found [] → Reads (canon script) found
+    by_outcome tokens lexed found spelled (inl e) = reads_by (canon script) tokens found lexed (ap (λ (o : Outcome Script). o >>= at_end) e)
+    by_outcome tokens lexed found spelled (inr (fault, rest, e, limit)) =
+        absurd (limit_refused (canon script) tokens found lexed spelled fault rest (ap (λ (o : Outcome Script). o >>= at_end) e) limit no_limit)
 
-  pub one_text : OneScript
-  one_text bytes others a b first second no_limit same =
-      let one = reads_back bytes a first no_limit in
-      let two = reads_back others b second (subst PassesNoLimit same no_limit) in
-      let read_both : Reads (canon b) one.0 = subst (λ (text : List ℕ). Reads text one.0) same one.1 in
-      sym one.2 ∙ ap Rattle.aq_canon.specs.Same.script_alone (one_script (canon b) one.0 two.0 read_both two.1) ∙ two.2
+pub one_text : OneScript
+one_text bytes others a b first second no_limit same =
+    let one = reads_back bytes a first no_limit in
+    let two = reads_back others b second (subst PassesNoLimit same no_limit) in
+    let read_both : Reads (canon b) one.0 = subst (λ (text : List ℕ). Reads text one.0) same one.1 in
+    sym one.2 ∙ ap script_alone (one_script (canon b) one.0 two.0 read_both two.1) ∙ two.2
