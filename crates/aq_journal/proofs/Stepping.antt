@@ -4,7 +4,7 @@ use Rattle.std.specs.Prelude.{replicate}
 use Rattle.std.specs.List.{flat_map}
 use Rattle.std.proofs.lemmas.List.{append-nil}
 use Rattle.std.proofs.lemmas.Bool.Decides.{nat_tests}
-use Rattle.aq_run.specs.Texts.{runs_of, with_step}
+use Rattle.aq_texts.specs.Schedules.{runs_of, with_step}
 
 same_session : (s : ℕ) → eqb s s ≡ true
 same_session s = grind (arith, nat_tests)

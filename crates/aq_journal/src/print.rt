@@ -3,8 +3,11 @@
 ghost use Rattle.std.specs.Prelude.{◌≡◌, ◌++◌, ◌∷◌, [], map, codes, OnOk};
 ghost use Rattle.std.specs.List.{flat_map};
 ghost use Rattle.std.specs.Fmt.{decimal, signed_decimal};
-ghost use Rattle.aq_run.specs.Replies.{joined};
-ghost use Rattle.aq_run.specs.Texts.{line, doubled_quote, value_text, row_text, table_text, reply_text, run_item};
+ghost use Rattle.aq_texts.specs.Rows.{joined};
+ghost use Rattle.aq_run.specs.Texts.{table_text};
+ghost use Rattle.aq_texts.specs.Rows.{line, doubled_quote, value_text, row_text};
+ghost use Rattle.aq_texts.specs.Replies.{reply_text};
+ghost use Rattle.aq_texts.specs.Schedules.{run_item};
 
 use aq_base::{Code, Column, NoMemory, ReplyLine, Row, Table, TextVal, Value};
 use itoa::Buffer;

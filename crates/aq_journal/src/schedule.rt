@@ -2,7 +2,7 @@
 
 ghost use Rattle.std.specs.Prelude.{◌≡◌, ℕ, ◌<◌, [], ◌∷◌, ◌++◌, map, length, codes, OnOk, OnErr};
 ghost use Rattle.std.specs.List.{flat_map};
-ghost use Rattle.aq_run.specs.Texts.{name_at, run_item, runs_of, schedule_line};
+ghost use Rattle.aq_texts.specs.Schedules.{name_at, run_item, runs_of, schedule_line};
 
 use crate::print::push_run;
 use aq_base::{NoMemory, SimpleSession};

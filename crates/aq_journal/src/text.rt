@@ -3,7 +3,8 @@
 ghost use Rattle.std.specs.Prelude.{◌≡◌, ◌++◌, map, IfOk, OnOk};
 ghost use Rattle.aq_base.specs.Setup.{program_of};
 ghost use Rattle.aq_run.specs.States.{last_database};
-ghost use Rattle.aq_run.specs.Texts.{name_at, given_text, replies_text, tables_text, text_of};
+ghost use Rattle.aq_run.specs.Texts.{given_text, replies_text, tables_text, text_of};
+ghost use Rattle.aq_texts.specs.Schedules.{name_at};
 ghost use Rattle.aq_machine.specs.Givens.{given_shown};
 
 use crate::print::{push_place, push_reply, push_table};

@@ -1,7 +1,7 @@
 -- A run with one step more at its end.
-use Rattle.std.proofs.Common.{◌≡◌, ℕ, true, List, [], ◌∷◌, ◌++◌, refl}
+use Rattle.std.proofs.Common.{◌≡◌, ℕ, true, [], ◌∷◌, ◌++◌, refl}
 use Rattle.aq_base.specs.Setup.{Program}
-use Rattle.aq_run.specs.States.{State, opening}
+use Rattle.aq_run.specs.States.{State}
 use Rattle.aq_run.specs.Steps.{step, is_enabled}
 use Rattle.aq_run.specs.Runs.{Schedule, run_from, CanRunFrom, GoesByDefault, IsLeastEnabled}
 

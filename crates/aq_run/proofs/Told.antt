@@ -13,9 +13,11 @@ use Rattle.aq_base.specs.declared.simple.SimpleScript.{SimpleScript}
 use Rattle.aq_run.specs.States.{State, Given, at_start, opening, session_at, last_database}
 use Rattle.aq_run.specs.Effects.{effects}
 use Rattle.aq_run.specs.Steps.{effects_of, scene_of, step}
-use Rattle.aq_run.specs.Replies.{joined}
 use Rattle.aq_run.specs.Runs.{Schedule, CanRunFrom, IsSchedule}
-use Rattle.aq_run.specs.Texts.{line, name_at, reply_text, given_text, replies_text, row_text, table_text, table_rows, tables_text, runs_of, run_item, text_of}
+use Rattle.aq_run.specs.Texts.{given_text, replies_text, table_text, table_rows, tables_text, text_of}
+use Rattle.aq_texts.specs.Rows.{line, joined, row_text}
+use Rattle.aq_texts.specs.Replies.{reply_text}
+use Rattle.aq_texts.specs.Schedules.{name_at, runs_of, run_item}
 use Rattle.aq_run.specs.Told.{is_lines, TellsSchedule, are_named, CanBeTold, ScheduleIsTold}
 use Rattle.aq_run.proofs.Told_bytes.{lines-line, lines-append, lines-flat_map, one_last_line}
 use Rattle.aq_run.proofs.Told_runs.{runs_of-injective, RunsFit-runs_of, items-injective, items_free}

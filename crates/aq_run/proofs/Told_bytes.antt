@@ -7,7 +7,7 @@ use Rattle.std.proofs.lemmas.Bool.{and_parts, and_from, not_from_false, false_fr
 use Rattle.std.proofs.lemmas.Bool.Decides.{nat_tests}
 use Rattle.std.proofs.lemmas.List.Folds.{list_all-append}
 use Rattle.aq_base.specs.Names.{Text, is_between, begins_word, goes_on_in_word, is_word, is_short, is_reserved, is_name}
-use Rattle.aq_run.specs.Texts.{line}
+use Rattle.aq_texts.specs.Rows.{line}
 use Rattle.aq_run.specs.Told.{is_free_of, is_lines, EndsWithLine}
 
 -- ---- texts that have no such byte

@@ -9,7 +9,7 @@ use Rattle.std.specs.Str.Parse.{digits_value}
 use Rattle.std.proofs.lemmas.Bool.{and_parts, cond_both}
 use Rattle.aq_base.specs.Names.{Text, same_text, goes_on_in_word, is_name, is_apart_from, all_differ}
 use Rattle.aq_run.specs.Runs.{Schedule}
-use Rattle.aq_run.specs.Texts.{name_at, with_step, runs_of, run_item}
+use Rattle.aq_texts.specs.Schedules.{name_at, with_step, runs_of, run_item}
 use Rattle.aq_run.specs.Told.{is_free_of, are_named}
 use Rattle.aq_run.proofs.Told_bytes.{free_of-append, name_free, decimal_free, cuts}
 

@@ -2,7 +2,7 @@
 use Rattle.std.proofs.Common.{◌≡◌, ◌*◌, ◌^◌, false, List, [], ◌∷◌, refl, codes, decimal}
 use Rattle.std.specs.Fmt.{digits}
 use Rattle.aq_base.specs.Names.{Text}
-use Rattle.aq_run.specs.Texts.{line}
+use Rattle.aq_texts.specs.Rows.{line}
 use Rattle.aq_run.specs.Told.{is_lines, are_named, TellsSchedule}
 
 abbrev two_names : List Text

@@ -17,7 +17,8 @@ use Rattle.aq_base.specs.declared.simple.SimpleScript.{SimpleScript}
 use Rattle.aq_run.specs.Effects.{effect}
 use Rattle.aq_run.specs.Steps.{plan_of, effects_of, step}
 use Rattle.aq_run.specs.Runs.{run_from, run, have_all_ended}
-use Rattle.aq_run.specs.Texts.{line, text}
+use Rattle.aq_run.specs.Texts.{text}
+use Rattle.aq_texts.specs.Rows.{line}
 
 -- a constraint that is checked at the end of the statement, and one that waits for COMMIT
 abbrev at_once : Decl

@@ -1,5 +1,5 @@
 -- What a step may do. A step is a list of effects, done one after the other.
-use Rattle.std.specs.Prelude.{ℕ, ◌+◌, Bool, true, List, [], ◌∷◌, ◌++◌, length, map, drop, filter, Option, Some, None, option_map}
+use Rattle.std.specs.Prelude.{ℕ, ◌+◌, true, List, [], ◌∷◌, ◌++◌, map, drop, filter, Option, Some, None, option_map}
 use Rattle.aq_base.specs.Values.{Row}
 use Rattle.aq_base.specs.Maps.{with_at}
 use Rattle.aq_base.specs.Catalogs.{Catalog}

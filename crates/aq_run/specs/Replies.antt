@@ -1,5 +1,5 @@
 -- The lines of a statement's reply, as data (PostgreSQL manual, chapter "Frontend/Backend Protocol", CommandComplete; source, ri_ReportViolation).
-use Rattle.std.specs.Prelude.{ℕ, Bool, true, false, List, [], ◌∷◌, ◌++◌, map, unwrap_or, option_map, slice_get, codes}
+use Rattle.std.specs.Prelude.{ℕ, true, false, List, [], ◌∷◌, ◌++◌, map, unwrap_or, option_map, slice_get, codes}
 use Rattle.std.specs.Fmt.{decimal, signed_decimal}
 use Rattle.aq_base.specs.Values.{Row}
 use Rattle.aq_base.specs.Names.{Text}
@@ -8,6 +8,7 @@ use Rattle.aq_base.specs.declared.value.Value.{Value}
 use Rattle.aq_base.specs.declared.value.Value.TheVariants.{Null, Bool as Truth, Int, Text as Characters}
 use Rattle.aq_base.specs.declared.reply.ReplyLine.{ReplyLine}
 use Rattle.aq_base.specs.declared.reply.ReplyLine.TheVariants.{Tag, Warning, Error, Detail}
+use Rattle.aq_texts.specs.Rows.{joined}
 use Rattle.aq_outcomes.specs.Faults.{Fault}
 use Rattle.aq_outcomes.specs.Faults.Fault.{Duplicate, Null_value, Missing, Referenced, In_failed_block}
 use Rattle.aq_run.specs.States.{Answer}
@@ -29,12 +30,6 @@ in_progress_warning = Warning (record { 0 = codes "25001" }) (codes "there is al
 
 abbrev pub no_block_warning : ReplyLine
 no_block_warning = Warning (record { 0 = codes "25P01" }) (codes "there is no transaction in progress")
-
--- texts with `, ` between each two
-abbrev pub joined : List Text → Text
-joined [] = []
-joined (text ∷ []) = text
-joined (text ∷ next ∷ texts) = text ++ codes ", " ++ joined (next ∷ texts)
 
 -- a value as a detail shows it
 abbrev pub detail_value : Value → Text

@@ -2,7 +2,7 @@
 use Rattle.std.specs.Prelude.{◌≡◌, ℕ, ◌<◌, Bool, true, false, List, [], ◌∷◌}
 use Rattle.std.specs.List.{list_all}
 use Rattle.aq_base.specs.Setup.{Program}
-use Rattle.aq_run.specs.States.{Session, State, opening}
+use Rattle.aq_run.specs.States.{State, opening}
 use Rattle.aq_run.specs.Steps.{step, is_enabled}
 
 -- a schedule: the sessions that step, one after the other

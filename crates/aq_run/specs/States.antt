@@ -1,8 +1,8 @@
 -- The state of a run.
-use Rattle.std.specs.Prelude.{ℕ, ◌+◌, ◌-◌, Bool, true, false, List, [], ◌∷◌, ◌++◌, length, map, Option, Some, None, option_map, slice_index_or}
+use Rattle.std.specs.Prelude.{ℕ, Bool, true, false, List, [], ◌∷◌, length, map, Option, None, slice_index_or}
 use Rattle.aq_base.specs.Values.{Row}
 use Rattle.aq_base.specs.Databases.{Database}
-use Rattle.aq_base.specs.Writes.{Writes, overlay}
+use Rattle.aq_base.specs.Writes.{overlay}
 use Rattle.aq_base.specs.Works.{Work}
 use Rattle.aq_base.specs.Setup.{Program}
 use Rattle.aq_base.specs.declared.simple.SimpleScript.{SimpleScript}

@@ -3,7 +3,8 @@ use Rattle.std.specs.Prelude.{◌≡◌, ℕ, ◌^◌, ◌<◌, Bool, true, not,
 use Rattle.std.specs.List.{list_all, flat_map}
 use Rattle.aq_base.specs.Names.{Text, is_name, all_differ}
 use Rattle.aq_run.specs.Runs.{Schedule}
-use Rattle.aq_run.specs.Texts.{line, runs_of, run_item}
+use Rattle.aq_texts.specs.Rows.{line}
+use Rattle.aq_texts.specs.Schedules.{runs_of, run_item}
 
 -- the byte isn't in the text
 abbrev pub is_free_of : ℕ → Text → Bool

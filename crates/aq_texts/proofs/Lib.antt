@@ -1,2 +1,4 @@
+pub mod Bodies
 pub mod Expressions
+pub mod TraceLines
 pub mod Worked

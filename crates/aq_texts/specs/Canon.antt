@@ -27,7 +27,7 @@ use Rattle.aq_base.specs.declared.modes.Constraints.TheVariants as constrained
 use Rattle.aq_base.specs.declared.modes.SetConstraints.{SetConstraints}
 use Rattle.aq_base.specs.declared.body.BodyStatement.{BodyStatement, BodyStatement-F, fold-BodyStatement}
 use Rattle.aq_base.specs.declared.body.BodyStatement.TheOpen as bodies
-use Rattle.aq_base.specs.declared.body.ElseIf.{ElseIf-F}
+use Rattle.aq_base.specs.declared.body.ElseIf.{ElseIf, ElseIf-F, fold-ElseIf}
 use Rattle.aq_base.specs.declared.body.Returned.{Returned}
 use Rattle.aq_base.specs.declared.body.Returned.TheVariants as returns
 use Rattle.aq_base.specs.declared.catalog.Decl.{Decl}
@@ -218,6 +218,9 @@ body_step (bodies.SetConstraints s) = set_constraints s
 
 abbrev pub body_statement : BodyStatement → List Written
 body_statement s = fold-BodyStatement (List Written) (List Written) body_step else_if_step s
+
+abbrev pub else_if : ElseIf → List Written
+else_if branch = fold-ElseIf (List Written) (List Written) body_step else_if_step branch
 
 abbrev pub block : List BodyStatement → List Written
 block found = ended (map body_statement found)

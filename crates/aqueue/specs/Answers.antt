@@ -11,7 +11,8 @@ use Rattle.aq_base.specs.declared.simple.SimpleScript.{SimpleScript}
 use Rattle.aq_script.specs.Reading.{Reads, IsRefusedLine}
 use Rattle.aq_simple.specs.Simple.{Runs, not_built_line}
 use Rattle.aq_run.specs.Runs.{Schedule, run, IsSchedule, IsComplete, IsDefaultSchedule}
-use Rattle.aq_run.specs.Texts.{line, text}
+use Rattle.aq_run.specs.Texts.{text}
+use Rattle.aq_texts.specs.Rows.{line}
 use Rattle.aq_run.specs.Told.{TellsSchedule, CanBeTold}
 use Rattle.aq_laws.specs.Committed.{DatabasesStand}
 

@@ -1,6 +1,6 @@
 use Rattle.std.proofs.Common.{◌≡◌, ◌++◌, take}
 use Rattle.std.specs.List.{flat_map}
-use Rattle.aq_run.specs.Texts.{line, row_text}
+use Rattle.aq_texts.specs.Rows.{line, row_text}
 use Rattle.aq_journal.proofs.print.push_rows.Given as goal
 
 abbrev pub invariant-loop-row : goal.invariant-loop-row

@@ -1,4 +1,4 @@
-use Rattle.aq_run.specs.Texts.{value_text}
+use Rattle.aq_texts.specs.Rows.{value_text}
 use Rattle.aq_journal.proofs.Joining.{joins}
 use Rattle.aq_journal.proofs.print.push_values.Goals as goal
 

@@ -1,7 +1,7 @@
 use Rattle.std.proofs.Common.{◌≡◌, ℕ, List, ◌∷◌, ◌++◌, [], map, ap, sym, ◌∙◌, arith}
 use Rattle.std.specs.Prelude.{replicate}
 use Rattle.std.proofs.lemmas.List.{nil_from_length}
-use Rattle.aq_run.specs.Texts.{run_item}
+use Rattle.aq_texts.specs.Schedules.{run_item}
 use Rattle.aq_journal.proofs.Stepping.{items_of, other_run, last_run}
 use Rattle.aq_journal.proofs.schedule.push_items.Goals as goal
 

@@ -1,6 +1,6 @@
 use Rattle.std.proofs.Common.{◌≡◌, ◌++◌, ◌+◌, ◌≤◌, map, length}
 use Rattle.std.specs.Prelude.{replicate}
-use Rattle.aq_run.specs.Texts.{run_item}
+use Rattle.aq_texts.specs.Schedules.{run_item}
 use Rattle.aq_journal.proofs.Stepping.{items_of}
 use Rattle.aq_journal.proofs.schedule.push_items.Given as goal
 

@@ -1,0 +1,54 @@
+-- How each statement of a code is printed.
+use Rattle.std.proofs.Common.{◌≡◌, refl, List, [], ◌∷◌, ◌++◌, sym, ap, ◌∙◌, codes, map, Option, Some, None, flat_map}
+use Rattle.aq_base.specs.Names.{Text}
+use Rattle.aq_base.specs.declared.expr.Expr.{Expr}
+use Rattle.aq_base.specs.declared.data.Insert.{Insert}
+use Rattle.aq_base.specs.declared.data.Update.{Update}
+use Rattle.aq_base.specs.declared.data.Delete.{Delete}
+use Rattle.aq_base.specs.declared.modes.SetConstraints.{SetConstraints}
+use Rattle.aq_base.specs.declared.body.Returned.{Returned}
+use Rattle.aq_base.specs.declared.body.BodyStatement.{BodyStatement, fold-roll-BodyStatement}
+use Rattle.aq_base.specs.declared.body.BodyStatement.TheVariants as bodies
+use Rattle.aq_base.specs.declared.body.ElseIf.{ElseIf, fold_out-ElseIf}
+use Rattle.aq_texts.specs.Written.{Written, say, Literal}
+use Rattle.aq_texts.specs.Canon.{perhaps, expression, block, body_step, else_if_step, else_if, body_statement, returned, insert, update, delete, set_constraints}
+
+pub raise_is : (text : Text) → body_statement (bodies.Raise text) ≡ say (codes "RAISE") ∷ say (codes "EXCEPTION") ∷ Literal text ∷ []
+raise_is text = ap body_statement (sym (bodies.rolls-Raise text)) ∙ fold-roll-BodyStatement (List Written) (List Written) body_step else_if_step _
+
+pub return_is : (what : Returned) → body_statement (bodies.Return what) ≡ say (codes "RETURN") ∷ returned what ∷ []
+return_is what = ap body_statement (sym (bodies.rolls-Return what)) ∙ fold-roll-BodyStatement (List Written) (List Written) body_step else_if_step _
+
+pub insert_is : (s : Insert) → body_statement (bodies.Insert s) ≡ insert s
+insert_is s = ap body_statement (sym (bodies.rolls-Insert s)) ∙ fold-roll-BodyStatement (List Written) (List Written) body_step else_if_step _
+
+pub update_is : (s : Update) → body_statement (bodies.Update s) ≡ update s
+update_is s = ap body_statement (sym (bodies.rolls-Update s)) ∙ fold-roll-BodyStatement (List Written) (List Written) body_step else_if_step _
+
+pub delete_is : (s : Delete) → body_statement (bodies.Delete s) ≡ delete s
+delete_is s = ap body_statement (sym (bodies.rolls-Delete s)) ∙ fold-roll-BodyStatement (List Written) (List Written) body_step else_if_step _
+
+pub set_constraints_is : (s : SetConstraints) → body_statement (bodies.SetConstraints s) ≡ set_constraints s
+set_constraints_is s = ap body_statement (sym (bodies.rolls-SetConstraints s)) ∙ fold-roll-BodyStatement (List Written) (List Written) body_step else_if_step _
+
+pub else_if_is : (branch : ElseIf) → else_if branch ≡ say (codes "ELSIF") ∷ (expression branch.condition ++ say (codes "THEN") ∷ block branch.then)
+else_if_is branch = fold_out-ElseIf (List Written) (List Written) body_step else_if_step branch
+
+-- each branch's tokens, one behind the other
+flattened : (branches : List ElseIf) → flat_map (λ tokens. tokens) (map else_if branches) ≡ flat_map else_if branches
+flattened [] = refl
+flattened (branch ∷ branches) = ap (λ tokens. else_if branch ++ tokens) (flattened branches)
+
+abbrev pub behind_if : Expr → List BodyStatement → List Written → List Written → List Written
+behind_if condition first others last =
+    say (codes "IF") ∷ (expression condition ++ say (codes "THEN") ∷ (block first ++ (others ++ (last ++ say (codes "END") ∷ say (codes "IF") ∷ []))))
+
+pub if_is : (condition : Expr) (first : List BodyStatement) (others : List ElseIf) (last : Option (List BodyStatement))
+    → body_statement (bodies.If condition first others last)
+    ≡ behind_if condition first (flat_map else_if others) (perhaps (λ found. say (codes "ELSE") ∷ block found) last)
+if_is condition first others None =
+    ap body_statement (sym (bodies.rolls-If condition first others None)) ∙ fold-roll-BodyStatement (List Written) (List Written) body_step else_if_step _
+    ∙ ap (λ tokens. behind_if condition first tokens []) (flattened others)
+if_is condition first others (Some found) =
+    ap body_statement (sym (bodies.rolls-If condition first others (Some found))) ∙ fold-roll-BodyStatement (List Written) (List Written) body_step else_if_step _
+    ∙ ap (λ tokens. behind_if condition first tokens (say (codes "ELSE") ∷ block found)) (flattened others)

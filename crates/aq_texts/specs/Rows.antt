@@ -1,0 +1,31 @@
+-- Values and rows as they are printed.
+use Rattle.std.specs.Prelude.{ℕ, true, false, ◌==◌, List, [], ◌∷◌, ◌++◌, map, codes, flat_map, if◌then◌else◌}
+use Rattle.std.specs.Fmt.{signed_decimal}
+use Rattle.aq_base.specs.Values.{Row}
+use Rattle.aq_base.specs.Names.{Text}
+use Rattle.aq_base.specs.declared.value.Value.{Value}
+use Rattle.aq_base.specs.declared.value.Value.TheVariants.{Null, Bool as Truth, Int, Text as Characters}
+
+-- a text ended by LF
+abbrev pub line : Text → Text
+line text = text ++ 10 ∷ []
+
+-- texts with `, ` between each two
+abbrev pub joined : List Text → Text
+joined [] = []
+joined (text ∷ []) = text
+joined (text ∷ next ∷ texts) = text ++ codes ", " ++ joined (next ∷ texts)
+
+-- a quote within a text stands twice
+abbrev pub doubled_quote : ℕ → Text
+doubled_quote byte = if byte == 39 then 39 ∷ 39 ∷ [] else byte ∷ []
+
+abbrev pub value_text : Value → Text
+value_text Null = codes "null"
+value_text (Truth true) = codes "true"
+value_text (Truth false) = codes "false"
+value_text (Int n) = signed_decimal n
+value_text (Characters text) = codes "'" ++ flat_map doubled_quote text ++ codes "'"
+
+abbrev pub row_text : Row → Text
+row_text row = codes "(" ++ joined (map value_text row) ++ codes ")"
