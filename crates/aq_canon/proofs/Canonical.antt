@@ -103,8 +103,8 @@ reads_back bytes script reads no_limit =
     by_outcome tokens lexed found spelled (inr (fault, rest, e, limit)) =
         absurd (limit_refused (canon script) tokens found lexed spelled fault rest (ap (λ (o : Outcome Script). o >>= at_end) e) limit no_limit)
 
-pub one_text : OneScript
-one_text bytes others a b first second no_limit same =
+pub one_script_of : OneScript
+one_script_of bytes others a b first second no_limit same =
     let one = reads_back bytes a first no_limit in
     let two = reads_back others b second (subst PassesNoLimit same no_limit) in
     let read_both : Reads (canon b) one.0 = subst (λ (text : List ℕ). Reads text one.0) same one.1 in

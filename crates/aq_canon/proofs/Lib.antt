@@ -6,3 +6,5 @@ pub mod Schedules
 pub mod Scripts
 pub mod ReadAgain
 pub mod Canonical
+pub mod ScheduleLines
+pub mod Alike

@@ -27,7 +27,14 @@ both_parts f first second tokens last y e =
     value_is : {A : Type 0} (x y : A) (rest last : List PlacedLexeme) → ◌≡◌ {A = Outcome A} (Read x rest) (Read y last) → y ≡ x
     value_is x y rest last e = cc
 
--- the one and then the other
+-- the one and then the other are read
+pub both_read :
+    {A B C : Type 0} (f : A → B → C) (first : Reader A) (second : A → Reader B) (tokens middle last : List PlacedLexeme) (a : A) (b : B) → first tokens ≡ Read a middle
+    → second a middle ≡ Read b last → read_both f first second tokens ≡ Read (f a b) last
+both_read f first second tokens middle last a b e d =
+    ap (λ (o : Outcome _). o >>= λ a rest. second a rest >>= λ b last. Read (f a b) last) e ∙ ap (λ (o : Outcome _). o >>= λ b last. Read (f a b) last) d
+
+-- the same where a limit may be passed
 pub both_again :
     {A B C : Type 0} (f : A → B → C) (first : Reader A) (second : A → Reader B) (tokens middle last : List PlacedLexeme) (a : A) (b : B)
     → ReadsOrLimit (first tokens) a middle → ReadsOrLimit (second a middle) b last → ReadsOrLimit (read_both f first second tokens) (f a b) last

@@ -89,7 +89,7 @@ module _ {S A : Type 0} (kinds : List Terminal) (refusals : S → List Refusal) 
 
   module _ (texts_behind : (state : S) → TextsBehind (reader state))
       (again : (state : S) (x : A) (tokens middle : List PlacedLexeme) → HaveTexts tokens → refused (refusals state) tokens ≡ None → begins kinds tokens ≡ true
-          → reader state tokens ≡ Read x middle → (lines : ℕ → ℕ) (at : ℕ) (rest : List PlacedLexeme) → Between rest → IsAgain state x (laid lines at (print x)) rest)
+      → reader state tokens ≡ Read x middle → (lines : ℕ → ℕ) (at : ℕ) (rest : List PlacedLexeme) → Between rest → IsAgain state x (laid lines at (print x)) rest)
       (follows : (x : A) (lines : ℕ → ℕ) (at : ℕ) (rest : List PlacedLexeme) → Between (laid lines at (print x) ++ rest)) (may_end : (rest : List PlacedLexeme) → Behind rest → Between rest)
       (ends_free : (state : S) (rest : List PlacedLexeme) → Behind rest → (refused (refusals state) rest ≡ None) × (begins kinds rest ≡ false)) where
     each_follows : (xs : List A) (lines : ℕ → ℕ) (at : ℕ) (rest : List PlacedLexeme) → Behind rest → Between (laid lines at (flat_map print xs) ++ rest)
@@ -105,11 +105,11 @@ module _ {S A : Type 0} (kinds : List Terminal) (refusals : S → List Refusal) 
     end_again zero state rest behind = ap (λ (fault : Option SqlFault). stop_or fault rest (Read [] rest)) (ends_free state rest behind).0
     end_again (suc most) state rest behind =
         ap (λ (fault : Option SqlFault).
-            stop_or fault rest
-            (if begins kinds rest then read_both (λ x others. x ∷ others) (reader state) (λ x. read_each_behind kinds refusals reader next most (next state x)) rest else Read [] rest))
+        stop_or fault rest
+        (if begins kinds rest then read_both (λ x others. x ∷ others) (reader state) (λ x. read_each_behind kinds refusals reader next most (next state x)) rest else Read [] rest))
         (ends_free state rest behind).0
         ∙ ap (λ (test : Bool).
-            if test then read_both (λ x others. x ∷ others) (reader state) (λ x. read_each_behind kinds refusals reader next most (next state x)) rest else Read [] rest)
+        if test then read_both (λ x others. x ∷ others) (reader state) (λ x. read_each_behind kinds refusals reader next most (next state x)) rest else Read [] rest)
         (ends_free state rest behind).1
 
     -- one more
@@ -118,11 +118,11 @@ module _ {S A : Type 0} (kinds : List Terminal) (refusals : S → List Refusal) 
         ≡ read_both (λ x others. x ∷ others) (reader state) (λ x. read_each_behind kinds refusals reader next most (next state x)) tokens
     more_again most state tokens none begun =
         ap (λ (fault : Option SqlFault).
-            stop_or fault tokens
-            (if begins kinds tokens then read_both (λ x others. x ∷ others) (reader state) (λ x. read_each_behind kinds refusals reader next most (next state x)) tokens else Read [] tokens))
+        stop_or fault tokens
+        (if begins kinds tokens then read_both (λ x others. x ∷ others) (reader state) (λ x. read_each_behind kinds refusals reader next most (next state x)) tokens else Read [] tokens))
         none
         ∙ ap (λ (test : Bool).
-            if test then read_both (λ x others. x ∷ others) (reader state) (λ x. read_each_behind kinds refusals reader next most (next state x)) tokens else Read [] tokens)
+        if test then read_both (λ x others. x ∷ others) (reader state) (λ x. read_each_behind kinds refusals reader next most (next state x)) tokens else Read [] tokens)
         begun
 
     -- one that is read again, before others that are
@@ -156,7 +156,7 @@ module _ {S A : Type 0} (kinds : List Terminal) (refusals : S → List Refusal) 
     each_again most state tokens last (x ∷ others) texts read (suc more) enough lines at rest behind =
         by_parts (each_parts most state tokens last (x ∷ others) read)
         (λ fewer middle texts_left read_left.
-            each_again fewer (next state x) middle last others texts_left read_left more (omega (arith, enough)) lines (past at (print x)) rest behind)
+        each_again fewer (next state x) middle last others texts_left read_left more (omega (arith, enough)) lines (past at (print x)) rest behind)
       where
         Others : Type 0
         Others =

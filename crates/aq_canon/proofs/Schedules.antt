@@ -48,13 +48,13 @@ count_free : (count : ℕ) → (nat_lt 0 count && nat_lt count (2 ^ 63)) ≡ tru
 count_free count fit =
     token_free Count number_of (Number count) count Anything (λ line. fit) (and_parts (nat_lt 0 count) (nat_lt count (2 ^ 63)) fit).1 (λ line. refl)
 
-times_free : (count : ℕ) → (nat_lt 0 count && nat_lt count (2 ^ 63)) ≡ true
+pub times_free : (count : ℕ) → (nat_lt 0 count && nat_lt count (2 ^ 63)) ≡ true
     → IsFree (Either (Sign Times ∷ []) (sign Times ▸ Token Count number_of) (Done 1)) count (Repeat ∷ Number count ∷ []) Anything
 times_free count fit =
     left_free (Sign Times ∷ []) (sign Times ▸ Token Count number_of) (Done 1) count (Repeat ∷ Number count ∷ []) Anything
     (then_free (sign Times) (Token Count number_of) tt count (Repeat ∷ []) (Number count ∷ []) Anything (symbol_free Times Repeat tt Anything refl) (count_free count fit))
 
-plain_free : (name : List ℕ) → is_bare name ≡ true → is_plain_name (lexeme_of (Name name)) ≡ true → IsSound (lexeme_of (Name name))
+pub plain_free : (name : List ℕ) → is_bare name ≡ true → is_plain_name (lexeme_of (Name name)) ≡ true → IsSound (lexeme_of (Name name))
     → IsFree session_name name (Name name ∷ []) Anything
 plain_free name bare plain sound = token_free PlainName text_of (Name name) name Anything (λ line. plain) sound (λ line. sym (name_text_is name))
 
@@ -137,7 +137,7 @@ none_again : ScheduleAgain None []
 unfolding schedule
 none_again = record { sound = tt; spelled = inr (refl, refl); read = inl refl }
 
-some_again : (found : List Item) (lines : ℕ → ℕ) (at : ℕ) → Free items found (laid lines (suc at) (flat_map item_tokens found)) []
+pub some_again : (found : List Item) (lines : ℕ → ℕ) (at : ℕ) → Free items found (laid lines (suc at) (flat_map item_tokens found)) []
     → ScheduleAgain (Some found) (laid lines at (schedule_tokens (Some found)))
 unfolding schedule
 some_again found lines at free =
@@ -148,8 +148,16 @@ some_again found lines at free =
     record {
       sound = all_sound lines (suc at) (flat_map item_tokens found) (free_sound items found behind [] free);
       spelled =
-          inl (title ∷ behind, [], found, tt,
-          (title ∷ [], behind, tt, found, (title, refl, refl, refl), free_spells items found behind [] free, refl, refl), (refl, refl), sym (append-nil (title ∷ behind)), refl);
+          inl (
+            title ∷ behind,
+            [],
+            found,
+            tt,
+            (title ∷ [], behind, tt, found, (title, refl, refl, refl), free_spells items found behind [] free, refl, refl),
+            (refl, refl),
+            sym (append-nil (title ∷ behind)),
+            refl,
+          );
       read =
           both_again (λ x (y : Unit {0}). Some x) (λ tokens. read_both (λ (x : Unit {0}) y. y) (reads (heading Schedule)) (λ x. reads items) tokens) (λ x tokens. Read tt tokens)
           (title ∷ behind) [] [] found tt

@@ -206,17 +206,24 @@ module _ (setup : AreReadAgain in_setup) where
           same =
               ap₂ (λ (setup : List Placed) (sessions : List SessionText). record { setup = setup; sessions = sessions; schedule = script.schedule }) setup_is.same sessions_is.same;
           lines = lines_sound script setup_is.sound sessions_is.sound schedule_is.sound;
-          spelled =
-              (first, second ++ third, setup_is.found, (sessions_is.found, script.schedule), setup_is.spelled,
-              (second, third, sessions_is.found, script.schedule, sessions_is.spelled, schedule_is.spelled, refl, refl), refl, refl);
+          spelled = (
+            first,
+            second ++ third,
+            setup_is.found,
+            (sessions_is.found, script.schedule),
+            setup_is.spelled,
+            (second, third, sessions_is.found, script.schedule, sessions_is.spelled, schedule_is.spelled, refl, refl),
+            refl,
+            refl,
+          );
           read =
               both_again script_of read_setup
               (λ setup. read_both (λ (sessions : List SessionText) (items : Option (List Item)). (sessions, items)) (read_all_sessions (length setup)) (λ sessions. reads schedule))
               (first ++ (second ++ third)) (second ++ third) [] setup_is.found (sessions_is.found, script.schedule) setup_is.read
               (subst
               (λ (n : ℕ). ReadsOrLimit {A = List SessionText × Option (List Item)}
-                  (read_both (λ (sessions : List SessionText) (items : Option (List Item)). (sessions, items)) (read_all_sessions n) (λ sessions. reads schedule) (second ++ third))
-                  (sessions_is.found, script.schedule) [])
+              (read_both (λ (sessions : List SessionText) (items : Option (List Item)). (sessions, items)) (read_all_sessions n) (λ sessions. reads schedule) (second ++ third))
+              (sessions_is.found, script.schedule) [])
               (sym count)
               (both_again (λ (sessions : List SessionText) (items : Option (List Item)). (sessions, items)) (read_all_sessions (length script.setup)) (λ sessions. reads schedule)
               (second ++ third) third [] sessions_is.found script.schedule sessions_is.read schedule_is.read));

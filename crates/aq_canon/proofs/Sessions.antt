@@ -178,16 +178,33 @@ module _ (again : AreReadAgain in_session) where
         free = no_limit (nat_lt (length state.names) session_limit) (lines at) (lines at) (name_at (lines (suc at)) x.name ∷ behind_name) (name_at (lines (suc at)) x.name ∷ behind_name) tokens begun none;
         begun = refl;
         found = found;
-        same =
-            (ap (λ (statements : List Placed). record { name = x.name; statements = statements }) are.same, subst IsSound (sym name_is) (plain_sound token.lexeme parts.is_plain parts.has_text),
-            are.sound);
+        same = (
+          ap (λ (statements : List Placed). record { name = x.name; statements = statements }) are.same,
+          subst IsSound (sym name_is) (plain_sound token.lexeme parts.is_plain parts.has_text),
+          are.sound,
+        );
         next_same =
             ap (λ (count : ℕ). record { statements = state.statements + count; names = state.names ++ x.name ∷ [] })
             (sym (length-map are.found statement_alone) ∙ ap (λ (xs : List Placed). length xs) are.same ∙ length-map x.statements statement_alone);
-        spelled =
-            (heading_at (lines at) ∷ name_at (lines (suc at)) x.name ∷ [], laid lines (suc (suc at)) (flat_map placed_tokens x.statements), x.name, are.found,
-            (heading_at (lines at) ∷ [], name_at (lines (suc at)) x.name ∷ [], tt, x.name, (heading_at (lines at), refl, refl, refl),
-            (name_at (lines (suc at)) x.name, plain, sym (name_text_is x.name), refl), refl, refl), are.spelled, refl, refl);
+        spelled = (
+          heading_at (lines at) ∷ name_at (lines (suc at)) x.name ∷ [],
+          laid lines (suc (suc at)) (flat_map placed_tokens x.statements),
+          x.name,
+          are.found,
+          (
+            heading_at (lines at) ∷ [],
+            name_at (lines (suc at)) x.name ∷ [],
+            tt,
+            x.name,
+            (heading_at (lines at), refl, refl, refl),
+            (name_at (lines (suc at)) x.name, plain, sym (name_text_is x.name), refl),
+            refl,
+            refl,
+          ),
+          are.spelled,
+          refl,
+          refl,
+        );
         read =
             both_again (λ name found. record { name = name; statements = found }) (read_name state.names) (λ name. read_all_statements in_session state.statements)
             (heading_at (lines at) ∷ name_at (lines (suc at)) x.name ∷ behind_name) behind_name rest x.name are.found

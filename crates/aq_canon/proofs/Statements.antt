@@ -72,7 +72,7 @@ first_line_is lines at (w ∷ ws) rest = (refl, refl)
 abbrev beyond : Bool → Section → List Refusal
 beyond fewer section = if fewer then [] else map (λ kind. record { words = kind ∷ []; fault = limit (codes "more than 65536 statements") }) (kinds_of section)
 
-less_test : (a b : ℕ) → a < b → nat_lt a b ≡ true
+pub less_test : (a b : ℕ) → a < b → nat_lt a b ≡ true
 less_test a b less = by_test (nat_lt a b) refl
   where
     by_test : (test : Bool) → nat_lt a b ≡ test → nat_lt a b ≡ true
@@ -192,8 +192,12 @@ module _ (section : Section) (fits : SectionFits section) (again : AreReadAgain 
           inl (ap (λ (o : Outcome Statement). o >>= λ statement last. Read (record { line = line_of (laid lines at (placed_tokens x) ++ rest); statement = statement }) last) e
           ∙ ap (λ (n : ℕ). Read (record { line = n; statement = x.statement }) rest) line)
       placed_read outcome (inr (fault, place, e, is_limit)) line =
-          inr (fault, place,
-          ap (λ (o : Outcome Statement). o >>= λ statement last. Read (record { line = line_of (laid lines at (placed_tokens x) ++ rest); statement = statement }) last) e, is_limit)
+          inr (
+            fault,
+            place,
+            ap (λ (o : Outcome Statement). o >>= λ statement last. Read (record { line = line_of (laid lines at (placed_tokens x) ++ rest); statement = statement }) last) e,
+            is_limit,
+          )
 
   pub statements_again : (state : ℕ) (tokens last : List PlacedLexeme) (xs : List Placed) → HaveTexts tokens → read_all_statements section state tokens ≡ Read xs last
       → (lines : ℕ → ℕ) (at : ℕ) (rest : List PlacedLexeme) → HeadingNext rest → StatementsAgain section state xs (laid lines at (flat_map placed_tokens xs)) rest

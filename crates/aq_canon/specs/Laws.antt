@@ -19,3 +19,7 @@ ReadsBack =
 abbrev pub OneScript : Type 0
 OneScript =
     (bytes others : List ℕ) (a b : Script) → Reads bytes a → Reads others b → PassesNoLimit (canon a) → canon a ≡ canon b → AreSame a b
+
+-- scripts that are the same but for the lines of their statements have one canonical text
+abbrev pub OneText : Type 0
+OneText = (a b : Script) → AreSame a b → canon a ≡ canon b

@@ -1,5 +1,5 @@
-use Rattle.aq_canon.proofs.Canonical as laws
+use Rattle.aq_canon.proofs.Canonical as proved
 use Rattle.aq_canon.proofs.laws.reads_back.Goals as goal
 
 pub returns : goal.returns
-returns c = laws.reads_back
+returns c = proved.reads_back
