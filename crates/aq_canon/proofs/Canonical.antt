@@ -1,5 +1,5 @@
 -- A canonical text is read as its script, unless a limit is passed.
-use Rattle.std.proofs.Common.{◌≡◌, ℕ, Bool, true, false, ◌&&◌, List, [], ◌∷◌, ◌++◌, length, take, drop, ◌-◌, arith, length-append, inl, inr, refl, sym, ap, ap₂, ◌∙◌, subst, ◌⊎◌, if◌then◌else◌, codes}
+use Rattle.std.proofs.Common.{◌≡◌, ℕ, Bool, true, false, ◌&&◌, List, [], ◌∷◌, ◌++◌, length, take, drop, ◌-◌, arith, length-append, inl, inr, refl, sym, ap, ◌∙◌, subst, if◌then◌else◌}
 use Rattle.std.proofs.lemmas.Bool.{and_parts}
 use Rattle.std.proofs.lemmas.List.{take-append-drop, drop_at}
 use Rattle.std.specs.Prelude.{nat_lt}
@@ -8,7 +8,7 @@ use Rattle.aq_base.specs.declared.script.Script.{Script}
 use Rattle.aq_lex.specs.declared.token.Token.{Token}
 use Rattle.aq_lex.specs.Tokens.{Lexes}
 use Rattle.aq_lex.specs.Lexemes.{PlacedLexeme, lexemes, line_at}
-use Rattle.aq_grammar.specs.Reading.{Outcome, Reason, Read, Stop, Refused, ◌>>=◌}
+use Rattle.aq_grammar.specs.Reading.{Outcome, Read, Stop, Refused, ◌>>=◌}
 use Rattle.aq_grammar.specs.Pairs.{HasSubquery}
 use Rattle.aq_grammar.specs.Places.{begins_subquery, subquery_fault}
 use Rattle.aq_grammar.specs.Stopping.{one_before, last_tokens, refused_place}
@@ -16,7 +16,7 @@ use Rattle.aq_grammar.specs.declared.place.RefusedPlace.{RefusedPlace}
 use Rattle.aq_grammar.proofs.RefusedAt.{pair_within}
 use Rattle.aq_script.specs.Sections.{SpellsScript}
 use Rattle.aq_script.specs.Parsing.{read_script, at_end, whole_script}
-use Rattle.aq_script.specs.Reading.{Reads, IsRefusedLine}
+use Rattle.aq_script.specs.Reading.{Reads}
 use Rattle.aq_script.specs.RefusedLines.{IsRefusedPlace, line_or}
 use Rattle.aq_script.proofs.OneLine.{one_script}
 use Rattle.aq_script.proofs.Refusals.{script_is_read}
@@ -28,11 +28,11 @@ use Rattle.aq_forms.proofs.Laid.{laid}
 use Rattle.aq_forms.proofs.Free.{IsLimit, ReadsOrLimit}
 use Rattle.aq_forms.proofs.Texts.{lexed_texts}
 use Rattle.aq_forms.proofs.PrintedLines.{lines_lex}
-use Rattle.aq_canon.specs.Same.{script_alone, AreSame}
+use Rattle.aq_canon.specs.Same.{script_alone}
 use Rattle.aq_canon.specs.Laws.{PassesNoLimit, ReadsBack, OneScript}
 use Rattle.aq_canon.proofs.Outcomes.{bind_parts}
 use Rattle.aq_canon.proofs.ReadAgain.{setup_statements_again, session_statements_again}
-use Rattle.aq_canon.proofs.Scripts.{script_tokens, tokens_are, ScriptAgain, script_again}
+use Rattle.aq_canon.proofs.Scripts.{script_tokens, tokens_are, script_again}
 
 -- nothing is left behind a whole script
 whole_parts : (tokens : List PlacedLexeme) (script : Script) → whole_script tokens ≡ Read script [] → read_script tokens ≡ Read script []

@@ -1,9 +1,8 @@
 -- What reading one thing after the other comes to, where each is read or stops at a limit.
-use Rattle.std.proofs.Common.{◌≡◌, List, inl, inr, refl, ap, ◌∙◌, ◌⊎◌}
-use Rattle.aq_base.specs.declared.fault.SqlFault.{SqlFault}
+use Rattle.std.proofs.Common.{◌≡◌, List, inl, inr, refl, ap, ◌∙◌}
 use Rattle.aq_lex.specs.Lexemes.{PlacedLexeme}
-use Rattle.aq_grammar.specs.Reading.{Outcome, Read, Stop, Refused, Reader, ◌>>=◌, read_both}
-use Rattle.aq_forms.proofs.Free.{IsLimit, ReadsOrLimit}
+use Rattle.aq_grammar.specs.Reading.{Outcome, Read, Stop, Reader, ◌>>=◌, read_both}
+use Rattle.aq_forms.proofs.Free.{ReadsOrLimit}
 
 -- what was read first, and then
 pub bind_parts :

@@ -1,15 +1,15 @@
 -- A statement that was read in a section is read again from its printed tokens.
-use Rattle.std.proofs.Common.{◌≡◌, ℕ, true, false, Bool, List, [], ◌∷◌, ◌++◌, refl, sym, ap, ◌∙◌, subst, append_assoc, None}
+use Rattle.std.proofs.Common.{◌≡◌, ℕ, true, false, List, [], ◌∷◌, ◌++◌, refl, sym, ap, ◌∙◌, subst, append_assoc, None}
 use Rattle.aq_base.specs.declared.statement.Statement.{Statement}
 use Rattle.aq_lex.specs.declared.token.Symbol.TheVariants.{Semicolon}
 use Rattle.aq_lex.specs.Lexemes.{PlacedLexeme, Symbol}
-use Rattle.aq_grammar.specs.Terminals.{begins, is_of}
+use Rattle.aq_grammar.specs.Terminals.{begins}
 use Rattle.aq_grammar.specs.Rules.{Rule, refused}
 use Rattle.aq_grammar.specs.Forms.{sign, ◌◂◌}
 use Rattle.aq_grammar.specs.Reading.{Outcome, Read}
-use Rattle.aq_grammar.specs.Sets.{marks_by, is_fit_by, same_kinds}
+use Rattle.aq_grammar.specs.Sets.{marks_by, is_fit_by}
 use Rattle.aq_grammar.specs.Nonterminals.{marks, reads, Spells, Bars}
-use Rattle.aq_grammar.specs.Statements.{supported_in_setup, supported_in_session, refused_in_setup, refused_in_session, setup_statement, session_statement}
+use Rattle.aq_grammar.specs.Statements.{supported_in_setup, supported_in_session, setup_statement, session_statement}
 use Rattle.aq_grammar.proofs.Apart.{same_kinds_sound}
 use Rattle.aq_grammar.proofs.Grammar.{is_read_right}
 use Rattle.aq_grammar.proofs.Keeping.{begun_by}
@@ -19,14 +19,12 @@ use Rattle.aq_script.proofs.Fit.{SectionFits}
 use Rattle.aq_script.proofs.ReadStatements.{section_fits}
 use Rattle.aq_script.proofs.Statements.{ended_fits, ended_has, repeats, same_begins}
 use Rattle.aq_parse.specs.declared.statements.Place.TheVariants as places
-use Rattle.aq_texts.specs.Written.{Written, Mark}
+use Rattle.aq_texts.specs.Written.{Mark}
 use Rattle.aq_texts.specs.Canon.{statement, statement_tokens}
 use Rattle.aq_forms.proofs.Sound.{HaveTexts}
 use Rattle.aq_forms.proofs.Laid.{laid, past, laid_append}
 use Rattle.aq_forms.proofs.Derived.{Derives}
-use Rattle.aq_forms.proofs.Free.{Free}
 use Rattle.aq_forms.proofs.Combining.{IsFree, Anything, Semicolon_next, mark_free, before_free}
-use Rattle.aq_forms.proofs.Depths.{HasRoom}
 use Rattle.aq_forms.proofs.Deriving.{derives}
 use Rattle.aq_forms.proofs.Headings.{has_no_heading, session_statement_has_none, setup_statement_has_none}
 use Rattle.aq_forms.proofs.PrintedLines.{all_sound}

@@ -1,12 +1,11 @@
 -- The line in which a run tells its schedule is read as that schedule.
-use Rattle.std.proofs.Common.{◌≡◌, ℕ, zero, suc, ◌<◌, ◌≤◌, ◌+◌, ◌^◌, ◌==◌, Bool, true, false, not, ◌&&◌, ◌||◌, List, [], ◌∷◌, ◌++◌, length, flat_map, map, replicate, Option, Some, None, inl, inr, refl, sym, ap, ap₂, ◌∙◌, subst, ◌⊎◌, arith, append_assoc, if◌then◌else◌, codes}
+use Rattle.std.proofs.Common.{◌≡◌, ℕ, zero, suc, ◌<◌, ◌≤◌, ◌+◌, ◌^◌, ◌==◌, Bool, true, false, not, ◌&&◌, List, [], ◌∷◌, ◌++◌, length, flat_map, map, replicate, Option, Some, inl, inr, refl, sym, ap, ap₂, ◌∙◌, subst, ◌⊎◌, arith, append_assoc, if◌then◌else◌, codes}
 use Rattle.std.proofs.lemmas.List.{append-nil}
-use Rattle.std.proofs.lemmas.Bool.{and_parts, and_from, ltb-true}
+use Rattle.std.proofs.lemmas.Bool.{and_parts, and_from}
 use Rattle.std.proofs.lemmas.Bool.Decides.{nat_tests}
 use Rattle.std.proofs.lemmas.Slice.Eq.{bytes_eq-Decides}
-use Rattle.std.proofs.lemmas.Grind.{replicate_next}
 use Rattle.std.specs.Prelude.{nat_lt}
-use Rattle.std.specs.List.{list_all, list_any}
+use Rattle.std.specs.List.{list_all}
 use Rattle.std.specs.Fmt.{decimal}
 use Rattle.std.specs.Char.{to_ascii_lowercase}
 use Rattle.aq_base.specs.Names.{Text as Bytes, begins_word, goes_on_in_word, same_text, is_name, is_word, is_short, is_reserved, is_apart_from, all_differ}
@@ -15,10 +14,9 @@ use Rattle.aq_base.specs.declared.script.Script.{Script}
 use Rattle.aq_base.specs.declared.script.SessionText.{SessionText}
 use Rattle.aq_base.specs.declared.fault.SqlFault.{SqlFault}
 use Rattle.aq_lex.specs.declared.token.Symbol.TheVariants.{Times}
-use Rattle.aq_lex.specs.Tokens.{quoted, begins_word as begins_any_word, goes_on_in_word as goes_on_in_any_word, is_word as is_any_word, Lexes}
-use Rattle.aq_lex.specs.declared.token.Token.{Token}
+use Rattle.aq_lex.specs.Tokens.{quoted, begins_word as begins_any_word, goes_on_in_word as goes_on_in_any_word, is_word as is_any_word}
 use Rattle.aq_lex.specs.declared.token.Directive.TheVariants.{Schedule}
-use Rattle.aq_lex.specs.Lexemes.{PlacedLexeme, Word, Directive, lexemes}
+use Rattle.aq_lex.specs.Lexemes.{PlacedLexeme, Directive}
 use Rattle.aq_grammar.specs.Terminals.{PlainName, Count, Sign, is_plain_name, number_of as number_in}
 use Rattle.aq_grammar.specs.Forms.{sign, ◌▸◌}
 use Rattle.aq_grammar.specs.Rules.{Token as Token_rule, Either, Done}

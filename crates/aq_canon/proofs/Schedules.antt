@@ -1,5 +1,5 @@
 -- A schedule is read again from its line.
-use Rattle.std.proofs.Common.{◌≡◌, ℕ, suc, Bool, true, false, ◌&&◌, List, [], ◌∷◌, ◌++◌, flat_map, Option, Some, None, inl, inr, refl, sym, ap, ◌∙◌, subst, ◌⊎◌, if◌then◌else◌}
+use Rattle.std.proofs.Common.{◌≡◌, ℕ, suc, true, false, ◌&&◌, List, [], ◌∷◌, ◌++◌, flat_map, Option, Some, None, inl, inr, refl, sym, ap, ◌∙◌, subst, ◌⊎◌}
 use Rattle.std.proofs.lemmas.List.{append-nil}
 use Rattle.std.proofs.lemmas.Bool.{and_parts}
 use Rattle.std.specs.Prelude.{nat_lt, ◌^◌}
@@ -7,10 +7,10 @@ use Rattle.aq_base.specs.declared.script.Item.{Item}
 use Rattle.aq_lex.specs.declared.token.Directive.TheVariants.{Schedule}
 use Rattle.aq_lex.specs.declared.token.Symbol.TheVariants.{Times}
 use Rattle.aq_lex.specs.Lexemes.{PlacedLexeme, Lexeme, Word, QuotedName, Integer, Text, Symbol, Directive}
-use Rattle.aq_grammar.specs.Terminals.{Terminal, Heading, PlainName, Count, Sign, fits, begins, is_of_kind, is_plain_name, text_of, lexeme_text, number_of, lexeme_number}
+use Rattle.aq_grammar.specs.Terminals.{Heading, PlainName, Count, Sign, fits, begins, is_of_kind, is_plain_name, text_of, lexeme_text, number_of, lexeme_number}
 use Rattle.aq_grammar.specs.Rules.{Nonterminal, ValueOf, Token, Either, Done}
 use Rattle.aq_grammar.specs.Sets.{is_fit_by}
-use Rattle.aq_grammar.specs.Reading.{Outcome, Read, Stop, Syntax, read_both}
+use Rattle.aq_grammar.specs.Reading.{Outcome, Read, read_both}
 use Rattle.aq_grammar.specs.Forms.{sign, ◌▸◌}
 use Rattle.aq_grammar.specs.Nonterminals.{marks, reads, Spells, Bars}
 use Rattle.aq_grammar.proofs.Grammar.{is_read_right}
@@ -20,10 +20,10 @@ use Rattle.aq_texts.specs.Written.{Written, Name, Number, Repeat, Heading as Hea
 use Rattle.aq_texts.specs.Canon.{item as item_tokens}
 use Rattle.aq_forms.proofs.Sound.{IsSound, HaveTexts}
 use Rattle.aq_forms.proofs.Laid.{lexeme_of, laid}
-use Rattle.aq_forms.proofs.Derived.{Trees, DerivesBy, DerivesEach, DerivesSome, Derives}
+use Rattle.aq_forms.proofs.Derived.{Trees, DerivesBy, DerivesEach, DerivesSome}
 use Rattle.aq_forms.proofs.Free.{ReadsOrLimit, Free}
 use Rattle.aq_forms.proofs.Combining.{IsFree, AreFree, Anything, token_free, symbol_free, then_free, both_any, left_free, many_free}
-use Rattle.aq_forms.proofs.Names.{plain_named, name_fits, name_sound, name_text_is}
+use Rattle.aq_forms.proofs.Names.{plain_named, name_text_is}
 use Rattle.aq_forms.proofs.Reading.{free_reads, free_spells, free_sound}
 use Rattle.aq_forms.proofs.PrintedLines.{AllSound, all_sound}
 use Rattle.aq_forms.proofs.Deriving.{derives}

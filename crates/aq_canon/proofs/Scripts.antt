@@ -1,5 +1,5 @@
 -- A script is read again from its canonical text.
-use Rattle.std.proofs.Common.{◌≡◌, ℕ, suc, true, false, Bool, List, [], ◌∷◌, ◌++◌, length, flat_map, map, Option, Some, None, inl, inr, refl, sym, ap, ap₂, ◌∙◌, subst, ◌⊎◌, append_assoc, if◌then◌else◌}
+use Rattle.std.proofs.Common.{◌≡◌, ℕ, suc, true, false, List, [], ◌∷◌, ◌++◌, length, flat_map, map, Option, Some, None, inl, inr, refl, sym, ap, ap₂, ◌∙◌, subst, ◌⊎◌, append_assoc}
 use Rattle.std.proofs.lemmas.List.{append-nil, length-map}
 use Rattle.aq_base.specs.declared.script.Placed.{Placed}
 use Rattle.aq_base.specs.declared.script.SessionText.{SessionText}
@@ -8,11 +8,11 @@ use Rattle.aq_base.specs.declared.script.Script.{Script}
 use Rattle.aq_lex.specs.declared.token.Directive.TheVariants.{Setup, Session, Schedule}
 use Rattle.aq_lex.specs.Lexemes.{PlacedLexeme, Directive}
 use Rattle.aq_grammar.specs.Terminals.{Heading, begins}
-use Rattle.aq_grammar.specs.Reading.{Outcome, Read, Stop, Refused, ◌>>=◌, read_both}
-use Rattle.aq_grammar.specs.Nonterminals.{reads, Spells}
+use Rattle.aq_grammar.specs.Reading.{Outcome, Read, read_both}
+use Rattle.aq_grammar.specs.Nonterminals.{reads}
 use Rattle.aq_grammar.proofs.Languages.{rest_of}
-use Rattle.aq_script.specs.Sections.{in_setup, in_session, heading, schedule, script_of, SpellsSetup, SpellsSessions, SpellsScript}
-use Rattle.aq_script.specs.Parsing.{read_all_statements, read_setup, read_all_sessions, read_script, at_end, whole_script}
+use Rattle.aq_script.specs.Sections.{in_setup, in_session, heading, schedule, script_of, SpellsSetup, SpellsScript}
+use Rattle.aq_script.specs.Parsing.{read_all_statements, read_setup, read_all_sessions, read_script}
 use Rattle.aq_script.proofs.Sections.{setup_right}
 use Rattle.aq_script.proofs.Scripts.{sessions_right}
 use Rattle.aq_script.proofs.ReadStatements.{section_fits}
@@ -23,8 +23,8 @@ use Rattle.aq_forms.proofs.Sound.{HaveTexts}
 use Rattle.aq_forms.proofs.Laid.{laid, past, laid_append}
 use Rattle.aq_forms.proofs.Free.{ReadsOrLimit}
 use Rattle.aq_forms.proofs.PrintedLines.{IsLine, Plain, Headed, AllLines, AllSound, are_sound}
-use Rattle.aq_canon.specs.Same.{statement_alone, session_alone, script_alone, AreSame}
-use Rattle.aq_canon.proofs.Outcomes.{bind_parts, both_parts, both_again}
+use Rattle.aq_canon.specs.Same.{statement_alone, AreSame}
+use Rattle.aq_canon.proofs.Outcomes.{both_parts, both_again}
 use Rattle.aq_canon.proofs.Repeated.{choice_parts}
 use Rattle.aq_canon.proofs.Statements.{AreReadAgain, HeadingNext, AtEnd, AtSession, AtSchedule, placed_tokens, EachSound, statements_again, setup_ends_free, texts_behind}
 use Rattle.aq_canon.proofs.Sessions.{ScheduleNext, Ends, Schedules, session_tokens, EachSoundSession, sessions_again, token_parts}

@@ -1,31 +1,30 @@
 -- The sessions of a script are read again from their lines.
-use Rattle.std.proofs.Common.{◌≡◌, ℕ, suc, ◌≤◌, ◌+◌, Bool, true, false, ◌&&◌, List, [], ◌∷◌, ◌++◌, length, flat_map, map, Option, Some, None, inl, inr, refl, sym, ap, ap₂, ◌∙◌, subst, ◌⊎◌, arith, if◌then◌else◌, length-append}
+use Rattle.std.proofs.Common.{◌≡◌, ℕ, suc, ◌≤◌, ◌+◌, Bool, true, false, ◌&&◌, List, [], ◌∷◌, ◌++◌, length, flat_map, map, Option, Some, None, inl, refl, sym, ap, ap₂, ◌∙◌, subst, arith, if◌then◌else◌, length-append}
 use Rattle.std.proofs.lemmas.List.{length-map}
-use Rattle.std.proofs.lemmas.Bool.{and_parts}
 use Rattle.std.specs.Prelude.{nat_lt, codes, ◌||◌}
-use Rattle.aq_base.specs.Names.{Text as Bytes, is_reserved, is_short}
+use Rattle.aq_base.specs.Names.{Text as Bytes}
 use Rattle.aq_base.specs.declared.script.Placed.{Placed}
 use Rattle.aq_base.specs.declared.script.SessionText.{SessionText}
 use Rattle.aq_lex.specs.declared.token.Directive.TheVariants.{Session, Schedule}
 use Rattle.aq_lex.specs.Lexemes.{PlacedLexeme, Lexeme, Word, QuotedName, Integer, Text, Symbol, Directive, is_word}
-use Rattle.aq_grammar.specs.Terminals.{Terminal, Keyword, Heading, PlainName, fits, begins, is_plain_name, text_of, lexeme_text}
+use Rattle.aq_grammar.specs.Terminals.{Terminal, Heading, PlainName, fits, begins, is_plain_name, text_of, lexeme_text}
 use Rattle.aq_grammar.specs.Rules.{Refusal, refused}
-use Rattle.aq_grammar.specs.Reading.{Outcome, Read, Stop, Syntax, Refused, Reader, ◌>>=◌, stop_or, read_both, read_unless, read_token}
+use Rattle.aq_grammar.specs.Reading.{Outcome, Read, Stop, Syntax, Reader, stop_or, read_unless, read_token}
 use Rattle.aq_grammar.specs.Forms.{limit}
-use Rattle.aq_grammar.specs.Nonterminals.{reads, Spells}
-use Rattle.aq_grammar.proofs.Languages.{IsRight, rest_of}
-use Rattle.aq_script.specs.Sections.{in_session, heading, session_name, SpellsSession, SpellsSessions, SpellsStatements, session_limit, refused_sessions, refused_names, repeated_name}
+use Rattle.aq_grammar.specs.Nonterminals.{reads}
+use Rattle.aq_grammar.proofs.Languages.{rest_of}
+use Rattle.aq_script.specs.Sections.{in_session, heading, session_name, SpellsSession, SpellsSessions, session_limit, refused_sessions, refused_names, repeated_name}
 use Rattle.aq_script.specs.Parsing.{Before, and_session, read_all_statements, read_name, read_session, read_all_sessions}
-use Rattle.aq_script.proofs.Sections.{session_right, BarsWithin}
+use Rattle.aq_script.proofs.Sections.{session_right}
 use Rattle.aq_texts.specs.Written.{Written, Name, Heading as Heading_token, is_bare}
 use Rattle.aq_forms.proofs.Sound.{IsSound, HasText, HaveTexts}
 use Rattle.aq_forms.proofs.Laid.{lexeme_of, laid}
 use Rattle.aq_forms.proofs.Free.{ReadsOrLimit}
-use Rattle.aq_forms.proofs.Names.{IsNamed, plain_named, name_text_is}
+use Rattle.aq_forms.proofs.Names.{plain_named, name_text_is}
 use Rattle.aq_canon.specs.Same.{statement_alone, session_alone}
 use Rattle.aq_canon.proofs.Outcomes.{both_parts, both_again}
-use Rattle.aq_canon.proofs.Repeated.{IsAgain, AreAgain, AreSameEach, each_again, stop_parts}
-use Rattle.aq_canon.proofs.Statements.{AreReadAgain, HeadingNext, AtEnd, AtSession, AtSchedule, placed_tokens, EachSound, StatementsAgain, statements_again, session_ends_free, texts_behind, laid_length}
+use Rattle.aq_canon.proofs.Repeated.{IsAgain, AreSameEach, each_again, stop_parts}
+use Rattle.aq_canon.proofs.Statements.{AreReadAgain, HeadingNext, AtEnd, AtSession, AtSchedule, placed_tokens, EachSound, statements_again, session_ends_free, texts_behind, laid_length}
 use Rattle.aq_script.proofs.ReadStatements.{section_fits}
 use Rattle.aq_parse.specs.declared.statements.Place.TheVariants as places
 

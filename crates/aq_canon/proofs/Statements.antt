@@ -1,5 +1,5 @@
 -- The statements of a section are read again from their lines.
-use Rattle.std.proofs.Common.{◌≡◌, ℕ, suc, ◌≤◌, ◌<◌, ◌+◌, Bool, true, false, List, [], ◌∷◌, ◌++◌, length, flat_map, map, Option, Some, None, inl, inr, refl, sym, ap, ap₂, ◌∙◌, subst, ◌⊎◌, arith, append_assoc, if◌then◌else◌, length-append}
+use Rattle.std.proofs.Common.{◌≡◌, ℕ, suc, ◌≤◌, ◌<◌, ◌+◌, Bool, true, false, List, [], ◌∷◌, ◌++◌, length, flat_map, map, Some, None, inl, inr, refl, ap, ap₂, ◌∙◌, subst, arith, if◌then◌else◌, length-append}
 use Rattle.std.proofs.lemmas.Bool.{ltb-false}
 use Rattle.std.specs.Prelude.{nat_lt, codes}
 use Rattle.aq_grammar.specs.Forms.{limit}
@@ -16,10 +16,10 @@ use Rattle.aq_lex.specs.declared.token.Symbol.TheVariants.{Semicolon}
 use Rattle.aq_lex.specs.Lexemes.{PlacedLexeme, Directive, first_line}
 use Rattle.aq_grammar.specs.Terminals.{begins}
 use Rattle.aq_grammar.specs.Rules.{Refusal, refused}
-use Rattle.aq_grammar.specs.Reading.{Outcome, Read, Stop, Refused, ◌>>=◌}
+use Rattle.aq_grammar.specs.Reading.{Outcome, Read, ◌>>=◌}
 use Rattle.aq_grammar.specs.Steps.{RefusesSo}
 use Rattle.aq_grammar.specs.Nonterminals.{reads, Spells}
-use Rattle.aq_script.specs.Sections.{Section, in_setup, in_session, kinds_of, ended, SpellsPlaced, SpellsStatements, statement_limit, refused_statements}
+use Rattle.aq_script.specs.Sections.{Section, in_setup, in_session, kinds_of, ended, SpellsPlaced, SpellsStatements, statement_limit}
 use Rattle.aq_script.specs.Parsing.{line_of, read_placed, refused_behind, read_all_statements}
 use Rattle.aq_texts.specs.Written.{Written, Mark}
 use Rattle.aq_texts.specs.Canon.{statement, statement_tokens}
@@ -30,7 +30,7 @@ use Rattle.aq_forms.proofs.PrintedLines.{AllSound}
 use Rattle.aq_forms.proofs.Combining.{Anything}
 use Rattle.aq_canon.specs.Same.{statement_alone}
 use Rattle.aq_canon.proofs.Outcomes.{bind_parts}
-use Rattle.aq_canon.proofs.Repeated.{TextsBehind, IsAgain, AreAgain, AreSameEach, each_again}
+use Rattle.aq_canon.proofs.Repeated.{IsAgain, AreSameEach, each_again}
 
 -- a statement that was read in a section is read again from its printed tokens, and nothing is refused in its place
 pub record IsReadAgain (section : Section) (s : Statement) (tokens rest : List PlacedLexeme) : Type 0 where

@@ -7,17 +7,16 @@ use Rattle.aq_base.specs.declared.catalog.Decl.{Decl}
 use Rattle.aq_base.specs.declared.constraint.Reference.{Reference}
 use Rattle.aq_base.specs.declared.constraint.ColumnConstraint.{ColumnConstraint}
 use Rattle.aq_base.specs.declared.constraint.ColumnConstraint.TheVariants.{NotNull, Default, PrimaryKey, Unique, References}
-use Rattle.aq_lex.specs.Lexemes.{PlacedLexeme}
 use Rattle.aq_grammar.specs.Terminals.{Keyword}
 use Rattle.aq_grammar.specs.Rules.{Nonterminal, ValueOf, Rule, Both, Either, Call, Unless, ColumnConstraints, ReferenceEnd}
 use Rattle.aq_grammar.specs.Forms.{word, ◌▸◌, mapped}
 use Rattle.aq_grammar.specs.Nonterminals.{rules}
-use Rattle.aq_grammar.specs.Tables.{target, constraint_name, immediate, with_timing, references_then, behind_key, not_valid, other_constraints, constraints, not_null, named_constraint, others_then, column_constraints, other_column_constraints, behind_timing, deferring, behind_not_deferrable, reference_end, decl}
+use Rattle.aq_grammar.specs.Tables.{constraint_name, immediate, with_timing, references_then, behind_key, not_valid, other_constraints, constraints, not_null, named_constraint, others_then, column_constraints, other_column_constraints, behind_timing, deferring, behind_not_deferrable, reference_end, decl}
 use Rattle.aq_texts.specs.Written.{Written, Said, Name}
 use Rattle.aq_texts.specs.Canon.{timing, column_constraint, constraint_name as constraint_name_tokens, reference as reference_tokens}
 use Rattle.aq_forms.proofs.Reading.{called_free}
 use Rattle.aq_forms.proofs.Derived.{Trees, DerivesBy, DerivesWithin, DerivesSome}
-use Rattle.aq_forms.proofs.Combining.{IsFree, Anything, MayFollow, Nothing_refused}
+use Rattle.aq_forms.proofs.Combining.{Anything, MayFollow, Nothing_refused}
 use Rattle.aq_forms.proofs.Composing.{Rest, Prints, Symbol_next, before_symbol, nothing_prints, word_then, both_print, both_print_any, mapped_prints, left_prints, right_prints, unless_prints, prints_as}
 use Rattle.aq_forms.proofs.Validity.{both_valid, then_valid, first_valid}
 use Rattle.aq_forms.proofs.Timing.{IsTiming, not_deferrable_is, deferring_is, deferring_prints}

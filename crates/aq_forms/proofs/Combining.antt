@@ -1,5 +1,5 @@
 -- How the parts of a rule are put together: printed tokens that spell a tree freely.
-use Rattle.std.proofs.Common.{◌≡◌, ℕ, suc, true, List, [], ◌∷◌, ◌++◌, map, Option, Some, None, inl, inr, refl, sym, ap, subst, flat_map}
+use Rattle.std.proofs.Common.{◌≡◌, ℕ, suc, true, List, [], ◌∷◌, ◌++◌, map, Some, None, inl, inr, refl, sym, ap, subst, flat_map}
 use Rattle.std.proofs.lemmas.List.{append-nil}
 use Rattle.std.specs.Char.{to_ascii_lowercase}
 use Rattle.aq_base.specs.Names.{Text as Bytes, same_text}
@@ -9,9 +9,9 @@ use Rattle.aq_lex.specs.declared.token.Symbol.TheVariants.{OpenParen, CloseParen
 use Rattle.aq_lex.specs.Lexemes.{PlacedLexeme, Symbol}
 use Rattle.aq_grammar.specs.Terminals.{Terminal, Keyword, Sign as Mark_kind, fits, same_symbol}
 use Rattle.aq_grammar.specs.Rules.{Refusal, Rule, Done, Token, Both, Either, Many, Unless, Limited, refused}
-use Rattle.aq_grammar.specs.Forms.{word, sign, ◌▸◌, ◌◂◌, mapped, nothing, says, optional, listed, in_parentheses}
+use Rattle.aq_grammar.specs.Forms.{word, sign, ◌▸◌, ◌◂◌, mapped, says, optional, listed, in_parentheses}
 use Rattle.aq_grammar.specs.Changes.{end_without}
-use Rattle.aq_texts.specs.Written.{Written, Said, Mark, Sign, Call, separated, listed as listed_tokens, in_parentheses as in_parentheses_tokens}
+use Rattle.aq_texts.specs.Written.{Written, Said, Mark, Sign, Call, listed as listed_tokens, in_parentheses as in_parentheses_tokens}
 use Rattle.aq_forms.proofs.Sound.{is_folded_word, IsSound}
 use Rattle.aq_forms.proofs.Laid.{lexeme_of, laid, past, laid_append}
 use Rattle.aq_forms.proofs.Free.{IsLimit, FreeEach, Free}

@@ -18,7 +18,7 @@ use Rattle.aq_grammar.specs.Terminals.{Number as Number_kind, Literal as Literal
 use Rattle.aq_grammar.specs.Rules.{Nonterminal, ValueOf, Both}
 use Rattle.aq_grammar.specs.Forms.{in_parentheses, name, names}
 use Rattle.aq_grammar.specs.Changes.{column_list}
-use Rattle.aq_grammar.specs.Tables.{constant, number, partial_match, matching, setting, action, action_on, actions, Target, target_of, target, reference_of, constraint_name, timing_without, not_valid, behind_key, other_constraints, table_primary_key, table_unique, table_foreign_key, bare_table_constraint, table_constraint, decl}
+use Rattle.aq_grammar.specs.Tables.{constant, number, partial_match, matching, setting, action, action_on, actions, Target, target_of, target, reference_of, constraint_name, timing_without, not_valid, behind_key, other_constraints, table_primary_key, table_unique, table_foreign_key, bare_table_constraint, table_constraint}
 use Rattle.aq_texts.specs.Written.{Written, Said, Name, Number, Literal, Sign, columns as columns_tokens}
 use Rattle.aq_texts.specs.Canon.{perhaps, timing, constant as constant_tokens, matching as matching_tokens, action_on as action_on_tokens, reference as reference_tokens, constraint_name as constraint_name_tokens, table_constraint as table_constraint_tokens}
 use Rattle.aq_forms.proofs.Sound.{IsSound}

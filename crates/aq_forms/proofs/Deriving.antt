@@ -4,7 +4,7 @@ use Rattle.std.proofs.lemmas.Bool.{and_parts}
 use Rattle.aq_base.specs.Names.{Text as Bytes}
 use Rattle.aq_lex.specs.declared.token.Directive.{Directive as DirectiveName}
 use Rattle.aq_lex.specs.Lexemes.{PlacedLexeme, Lexeme, Word, QuotedName, Integer, Text, Symbol, Directive}
-use Rattle.aq_grammar.specs.Terminals.{Terminal, NameBut, Number, Count, Heading, fits, is_of_kind, text_of}
+use Rattle.aq_grammar.specs.Terminals.{Terminal, NameBut, Number, Count, Heading, is_of_kind, text_of}
 use Rattle.aq_grammar.specs.Rules.{Nonterminal, ValueOf, Rule, Done, Token, Both, Either, Many, Differing, Call, Unless, Limited, Form, SpellsToken, SpellsBoth, SpellsEach, SpellsOther, SpellsBy}
 use Rattle.aq_grammar.specs.Calls.{CalledWithin, Called}
 use Rattle.aq_grammar.specs.Nonterminals.{rules, Spells}

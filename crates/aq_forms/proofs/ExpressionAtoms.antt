@@ -10,7 +10,7 @@ use Rattle.aq_lex.specs.Lexemes.{Lexeme, Word, QuotedName, Integer, Text, Symbol
 use Rattle.aq_lex.specs.declared.token.Symbol.TheVariants.{Dot}
 use Rattle.aq_grammar.specs.declared.scope.Scope.{Scope}
 use Rattle.aq_grammar.specs.declared.scope.Scope.TheVariants.{InStatement, InCondition, InCode}
-use Rattle.aq_grammar.specs.Terminals.{Terminal, Keyword, NameOf, NameBut, Number as Number_kind, Sign as Mark_kind, fits, is_of_kind, is_literal, is_literal_in_code, number_is, text_is, text_of, number_of, lexeme_text, lexeme_number}
+use Rattle.aq_grammar.specs.Terminals.{Terminal, Keyword, NameOf, NameBut, Number as Number_kind, Sign as Mark_kind, is_of_kind, is_literal, is_literal_in_code, number_is, text_is, text_of, number_of, lexeme_text, lexeme_number}
 use Rattle.aq_grammar.specs.Rules.{Nonterminal, ValueOf, Rule, Token, Both, Either}
 use Rattle.aq_grammar.specs.Forms.{word, sign, says, ◌▸◌, mapped, name}
 use Rattle.aq_grammar.specs.Expressions.{literal_in, column_or_qualified, column_of_public, behind_dot, behind_public, column, operation_or_column, old_column, new_column, column_of_row_or, named, word_or_named, plain_atom}

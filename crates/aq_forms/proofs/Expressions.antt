@@ -11,7 +11,6 @@ use Rattle.aq_grammar.specs.Rules.{Nonterminal, ValueOf, Rule, Call, Expression}
 use Rattle.aq_grammar.specs.Forms.{word, sign, ◌▸◌, limit}
 use Rattle.aq_grammar.specs.Nonterminals.{rules}
 use Rattle.aq_grammar.specs.Expressions.{before, from_left, with_summand, compared, tested, atom, signed, product, summand, sum, comparison, null_or_distinct, is_test, test, negation, conjunction, expression, expression_limit, whole_expression}
-use Rattle.aq_texts.specs.Written.{Written}
 use Rattle.aq_texts.specs.Canon.{expression as expression_tokens}
 use Rattle.aq_forms.proofs.Derived.{Trees, DerivesBy, DerivesEach, DerivesWithin, Derives}
 use Rattle.aq_forms.proofs.Combining.{IsFree, Anything, limited_free, weaker}

@@ -1,16 +1,15 @@
 -- A name that was read is printed as a token that reads as the same name.
-use Rattle.std.proofs.Common.{◌≡◌, ◌≢◌, ℕ, Bool, true, false, not, ◌&&◌, List, [], ◌∷◌, map, Option, Some, None, inl, inr, refl, sym, ap, ◌∙◌, subst, ◌⊎◌, codes, if◌then◌else◌}
+use Rattle.std.proofs.Common.{◌≡◌, ◌≢◌, Bool, true, false, not, ◌&&◌, List, [], ◌∷◌, map, Option, Some, None, inl, inr, refl, sym, ap, ◌∙◌, subst, ◌⊎◌, codes, if◌then◌else◌}
 use Rattle.std.proofs.lemmas.Bool.{and_parts, and_from}
 use Rattle.std.specs.Prelude.{IsUtf8}
 use Rattle.std.specs.Char.{to_ascii_lowercase}
 use Rattle.aq_lex.specs.Tokens.{is_word}
 use Rattle.aq_base.specs.Names.{Text as Bytes, same_text, is_short, is_reserved}
 use Rattle.aq_lex.specs.Lexemes.{PlacedLexeme, Lexeme, Word, QuotedName, Integer, Text, Symbol, Directive}
-use Rattle.aq_grammar.specs.Terminals.{Terminal, Name as Name_kind, NameOf, NameBut, PlainName, fits, name_is, is_name_word, is_plain_name, text_of, lexeme_text}
+use Rattle.aq_grammar.specs.Terminals.{Name as Name_kind, NameOf, NameBut, PlainName, fits, name_is, is_name_word, is_plain_name, text_of, lexeme_text}
 use Rattle.aq_grammar.specs.Rules.{Nonterminal, ValueOf, Token, Both}
 use Rattle.aq_grammar.specs.Forms.{name, public_name, optional, sign, ◌▸◌, last_name}
-use Rattle.aq_grammar.proofs.Apart.{same_text_is}
-use Rattle.aq_texts.specs.Written.{Written, Name, is_bare}
+use Rattle.aq_texts.specs.Written.{Name, is_bare}
 use Rattle.aq_forms.proofs.Sound.{is_folded_word, IsSound}
 use Rattle.aq_forms.proofs.Laid.{lexeme_of}
 use Rattle.aq_forms.proofs.Derived.{Trees, DerivesBy}

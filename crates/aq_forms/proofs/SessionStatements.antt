@@ -1,19 +1,15 @@
 -- Each statement of a session is printed freely.
-use Rattle.std.proofs.Common.{◌≡◌, List, [], ◌∷◌, codes, inl, inr, refl, sym, ◌∙◌, subst}
-use Rattle.aq_base.specs.declared.expr.Expr.{Expr}
+use Rattle.std.proofs.Common.{◌≡◌, [], ◌∷◌, codes, inl, inr, refl, sym, ◌∙◌, subst}
 use Rattle.aq_base.specs.declared.statement.Statement.{Statement}
 use Rattle.aq_base.specs.declared.statement.Statement.TheVariants.{Insert as Insert_statement, Update as Update_statement, Delete as Delete_statement, Select as Select_statement, SetConstraints as Set_statement, Commit, Rollback}
-use Rattle.aq_lex.specs.Lexemes.{PlacedLexeme}
 use Rattle.aq_grammar.specs.Terminals.{Keyword}
 use Rattle.aq_grammar.specs.Rules.{Rule, Either}
-use Rattle.aq_grammar.specs.declared.scope.Scope.{Scope}
 use Rattle.aq_grammar.specs.declared.scope.Scope.TheVariants.{InStatement}
 use Rattle.aq_grammar.specs.Forms.{mapped}
-use Rattle.aq_grammar.specs.Expressions.{whole_expression}
 use Rattle.aq_grammar.specs.Changes.{insert, update, delete, select, set_constraints}
 use Rattle.aq_grammar.specs.Transactions.{begin, start_transaction, ends_block, rollback, savepoint, release}
 use Rattle.aq_grammar.specs.Statements.{refused_in_session, block_statement, supported_in_session, session_statement}
-use Rattle.aq_texts.specs.Canon.{expression, statement, insert as insert_tokens, update as update_tokens, delete as delete_tokens, select as select_tokens, set_constraints as set_constraints_tokens}
+use Rattle.aq_texts.specs.Canon.{statement, insert as insert_tokens, update as update_tokens, delete as delete_tokens, select as select_tokens, set_constraints as set_constraints_tokens}
 use Rattle.aq_forms.proofs.Derived.{Derives}
 use Rattle.aq_forms.proofs.Combining.{IsFree, Semicolon_next, Nothing_refused, MayFollow, left_free, right_free, unless_free}
 use Rattle.aq_forms.proofs.Printing.{Prints, prints_mapped, prints_either}
