@@ -6,7 +6,7 @@ use Rattle.aq_script.specs.Reading.{Reads, IsRefusedLine}
 use Rattle.aq_texts.specs.Canon.{canon}
 use Rattle.aq_canon.specs.Same.{AreSame}
 
--- the bytes are not refused for a limit: all that printing can make longer are expressions, by parentheses
+-- the bytes are not refused for a limit, as an expression may be that its parentheses made longer
 abbrev pub PassesNoLimit : List ℕ → Type 0
 PassesNoLimit bytes = (line : ℕ) (fault : SqlFault) → IsRefusedLine bytes line fault → fault.code.0 ≡ codes "54000" → ⊥
 

@@ -4,7 +4,7 @@ ghost use Rattle.aq_canon.specs.Laws.{ReadsBack, OneScript, OneText};
 ghost use Rattle.aq_canon.specs.ScheduleLines.{ScheduleReadsBack};
 
 /// The canonical text of a script that was read is read as the same script, but for the lines of its statements.
-/// The one exception is a text that is refused for a limit: parentheses may bring an expression above 1,000 tokens.
+/// The one exception is a text that is refused for a limit, as where its parentheses bring an expression above 1,000 tokens.
 pub fn reads_back()
     ensures { ReadsBack }
 {}

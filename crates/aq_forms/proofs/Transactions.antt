@@ -15,7 +15,7 @@ use Rattle.aq_texts.specs.Written.{Written, Said, say, Name}
 use Rattle.aq_texts.specs.Canon.{isolation as isolation_tokens, statement as statement_tokens}
 use Rattle.aq_forms.proofs.Sound.{is_folded_word}
 use Rattle.aq_forms.proofs.Derived.{Derives}
-use Rattle.aq_forms.proofs.Combining.{IsFree, Anything, Semicolon_next, done_free, word_free, then_free, says_free, behind_word, mapped_free, left_free, right_free, some_free, none_free, unless_free}
+use Rattle.aq_forms.proofs.Combining.{IsFree, Anything, Semicolon_next, done_free, then_free, says_free, behind_word, mapped_free, left_free, right_free, none_free, unless_free}
 use Rattle.aq_forms.proofs.Printing.{Prints, prints_then, prints_name, name_tokens, semicolon_next}
 
 -- WORK and TRANSACTION are left out
@@ -85,16 +85,15 @@ pub ends_block_free :
 ends_block_free printed text statement Behind folded same =
     mapped_free (λ said. statement) (word text ▸ work) None (Said printed ∷ []) Behind (behind_word printed text work None [] Behind folded same (work_free Behind))
 
--- SAVEPOINT is printed before each savepoint's name
+-- SAVEPOINT is left out before a savepoint's name
 abbrev pub savepoint_tokens : Bytes → List Written
-savepoint_tokens text = say (codes "SAVEPOINT") ∷ Name text ∷ []
+savepoint_tokens text = Name text ∷ []
 
 pub savepoint_name_free : (Behind : List PlacedLexeme → Type 0) → Prints savepoint_name savepoint_tokens Behind
 unfolding savepoint_name
 savepoint_name_free Behind =
-    prints_then (optional (Keyword (codes "savepoint") ∷ []) (word (codes "savepoint"))) name (Some tt) (say (codes "SAVEPOINT") ∷ []) name_tokens Behind
-    (some_free (Keyword (codes "savepoint") ∷ []) (word (codes "savepoint")) tt (say (codes "SAVEPOINT") ∷ []) Anything
-    (word_free (codes "SAVEPOINT") (codes "savepoint") Anything refl refl)) (prints_name Behind)
+    prints_then (optional (Keyword (codes "savepoint") ∷ []) (word (codes "savepoint"))) name None [] name_tokens Behind
+    (none_free (Keyword (codes "savepoint") ∷ []) (word (codes "savepoint")) Anything) (prints_name Behind)
 
 pub rollback_alone_free : (Behind : List PlacedLexeme → Type 0) → IsFree rollback Rollback (statement_tokens Rollback) Behind
 unfolding rollback
