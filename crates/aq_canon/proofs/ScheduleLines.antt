@@ -43,7 +43,7 @@ use Rattle.aq_forms.proofs.ReadingLimited.{right_reads}
 use Rattle.aq_canon.specs.ScheduleLines.{number_of, steps_of, schedule_alone, ScheduleReadsBack}
 use Rattle.aq_canon.proofs.Outcomes.{both_read}
 use Rattle.aq_canon.proofs.Statements.{less_test}
-use Rattle.aq_canon.proofs.Sessions.{bare_lexeme}
+use Rattle.aq_forms.proofs.Names.{bare_lexeme}
 use Rattle.aq_canon.proofs.Schedules.{schedule_tokens, plain_free, times_free, some_again}
 
 -- ---- names

@@ -7,7 +7,7 @@ use Rattle.aq_base.specs.declared.script.Item.{Item}
 use Rattle.aq_lex.specs.declared.token.Directive.TheVariants.{Schedule}
 use Rattle.aq_lex.specs.declared.token.Symbol.TheVariants.{Times}
 use Rattle.aq_lex.specs.Lexemes.{PlacedLexeme, Lexeme, Word, QuotedName, Integer, Text, Symbol, Directive}
-use Rattle.aq_grammar.specs.Terminals.{Heading, PlainName, Count, Sign, fits, begins, is_of_kind, is_plain_name, text_of, lexeme_text, number_of, lexeme_number}
+use Rattle.aq_grammar.specs.Terminals.{Heading, PlainName, Count, Sign, fits, begins, is_of_kind, is_plain_name, text_of, number_of, lexeme_number}
 use Rattle.aq_grammar.specs.Rules.{Nonterminal, ValueOf, Token, Either, Done}
 use Rattle.aq_grammar.specs.Sets.{is_fit_by}
 use Rattle.aq_grammar.specs.Reading.{Outcome, Read, read_both}
@@ -23,7 +23,7 @@ use Rattle.aq_forms.proofs.Laid.{lexeme_of, laid}
 use Rattle.aq_forms.proofs.Derived.{Trees, DerivesBy, DerivesEach, DerivesSome}
 use Rattle.aq_forms.proofs.Free.{ReadsOrLimit, Free}
 use Rattle.aq_forms.proofs.Combining.{IsFree, AreFree, Anything, token_free, symbol_free, then_free, both_any, left_free, many_free}
-use Rattle.aq_forms.proofs.Names.{plain_named, name_text_is}
+use Rattle.aq_forms.proofs.Names.{plain_named, name_text_is, bare_lexeme, plain_lexeme}
 use Rattle.aq_forms.proofs.Reading.{free_reads, free_spells, free_sound}
 use Rattle.aq_forms.proofs.PrintedLines.{AllSound, all_sound}
 use Rattle.aq_forms.proofs.Deriving.{derives}
@@ -31,7 +31,7 @@ use Rattle.aq_forms.proofs.Headings.{has_no_heading}
 use Rattle.aq_canon.proofs.Outcomes.{both_parts, both_again}
 use Rattle.aq_canon.proofs.Repeated.{choice_parts}
 use Rattle.aq_canon.proofs.Statements.{texts_before}
-use Rattle.aq_canon.proofs.Sessions.{token_parts, bare_lexeme}
+use Rattle.aq_canon.proofs.Sessions.{token_parts}
 
 -- ---- items
 
@@ -62,16 +62,8 @@ plain_free name bare plain sound = token_free PlainName text_of (Name name) name
 plain_again : (token : PlacedLexeme) → fits PlainName token ≡ true → IsSound token.lexeme → IsFree session_name (text_of token) (Name (text_of token) ∷ []) Anything
 plain_again token fit sound =
     let named = plain_named token fit sound in
-    let is : lexeme_of (Name (text_of token)) ≡ token.lexeme = bare_lexeme (text_of token) named.1 ∙ sym (plain_is token.lexeme fit) in
+    let is : lexeme_of (Name (text_of token)) ≡ token.lexeme = bare_lexeme (text_of token) named.1 ∙ sym (plain_lexeme token.lexeme fit) in
     plain_free (text_of token) named.1 (ap is_plain_name is ∙ fit) (subst IsSound (sym is) sound)
-  where
-    plain_is : (lexeme : Lexeme) → is_plain_name lexeme ≡ true → lexeme ≡ Word (lexeme_text lexeme)
-    plain_is (Word text) e = refl
-    plain_is (QuotedName text) e = cc
-    plain_is (Integer number) e = cc
-    plain_is (Text text) e = cc
-    plain_is (Symbol symbol) e = cc
-    plain_is (Directive directive) e = cc
 
 item_free : (calls : (n : Nonterminal) → Trees (ValueOf n)) (x : Item) → DerivesBy calls item x → IsFree item x (item_tokens x) Anything
 unfolding item

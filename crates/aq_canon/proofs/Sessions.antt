@@ -20,7 +20,7 @@ use Rattle.aq_texts.specs.Written.{Written, Name, Heading as Heading_token, is_b
 use Rattle.aq_forms.proofs.Sound.{IsSound, HasText, HaveTexts}
 use Rattle.aq_forms.proofs.Laid.{lexeme_of, laid}
 use Rattle.aq_forms.proofs.Free.{ReadsOrLimit}
-use Rattle.aq_forms.proofs.Names.{plain_named, name_text_is}
+use Rattle.aq_forms.proofs.Names.{plain_named, name_text_is, bare_lexeme, plain_lexeme}
 use Rattle.aq_canon.specs.Same.{statement_alone, session_alone}
 use Rattle.aq_canon.proofs.Outcomes.{both_parts, both_again}
 use Rattle.aq_canon.proofs.Repeated.{IsAgain, AreSameEach, each_again, stop_parts}
@@ -71,14 +71,6 @@ names_told [] token other rest others e = refl
 names_told (name ∷ names) token other rest others e =
     ap₂ (λ (lexeme : Lexeme) (last : Option _). if is_word name lexeme && true then Some (repeated_name name) else last) e (names_told names token other rest others e)
 
-plain_lexeme : (lexeme : Lexeme) → is_plain_name lexeme ≡ true → lexeme ≡ Word (lexeme_text lexeme)
-plain_lexeme (Word text) e = refl
-plain_lexeme (QuotedName text) e = cc
-plain_lexeme (Integer number) e = cc
-plain_lexeme (Text text) e = cc
-plain_lexeme (Symbol symbol) e = cc
-plain_lexeme (Directive directive) e = cc
-
 plain_sound : (lexeme : Lexeme) → is_plain_name lexeme ≡ true → HasText lexeme → IsSound lexeme
 plain_sound (Word text) e has = has
 plain_sound (QuotedName text) e has = cc
@@ -86,9 +78,6 @@ plain_sound (Integer number) e has = cc
 plain_sound (Text text) e has = cc
 plain_sound (Symbol symbol) e has = cc
 plain_sound (Directive directive) e has = cc
-
-pub bare_lexeme : (text : Bytes) → is_bare text ≡ true → lexeme_of (Name text) ≡ Word text
-bare_lexeme text e = ap (λ (b : Bool). if b then Word text else QuotedName text) e
 
 -- one session more may begin
 no_limit : (test : Bool) (line other : ℕ) (rest others : List PlacedLexeme) (tokens : List PlacedLexeme)

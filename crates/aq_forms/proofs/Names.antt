@@ -21,7 +21,7 @@ use Rattle.aq_grammar.specs.Terminals.{Sign}
 abbrev pub IsNamed : Bytes → Type 0
 IsNamed text = (is_short text ≡ true) × ((is_bare text ≡ true) ⊎ ((is_bare text ≡ false) × (text ≢ []) × IsUtf8 text))
 
-bare_lexeme : (text : Bytes) → is_bare text ≡ true → lexeme_of (Name text) ≡ Word text
+pub bare_lexeme : (text : Bytes) → is_bare text ≡ true → lexeme_of (Name text) ≡ Word text
 bare_lexeme text e = ap (λ (b : Bool). if b then Word text else QuotedName text) e
 
 quoted_lexeme : (text : Bytes) → is_bare text ≡ false → lexeme_of (Name text) ≡ QuotedName text
@@ -110,6 +110,14 @@ plain_named token fit sound = by_lexeme token.lexeme fit sound
     by_lexeme (Text text) fit sound = cc
     by_lexeme (Symbol symbol) fit sound = cc
     by_lexeme (Directive directive) fit sound = cc
+
+pub plain_lexeme : (lexeme : Lexeme) → is_plain_name lexeme ≡ true → lexeme ≡ Word (lexeme_text lexeme)
+plain_lexeme (Word text) e = refl
+plain_lexeme (QuotedName text) e = cc
+plain_lexeme (Integer number) e = cc
+plain_lexeme (Text text) e = cc
+plain_lexeme (Symbol symbol) e = cc
+plain_lexeme (Directive directive) e = cc
 
 -- ---- names before which `public.` may stand
 
