@@ -189,10 +189,6 @@ called_is rules n x u = (by_rule, by_calls)
         let (k, at) = at_some_by (CalledWithin rules) (λ m k more less. within_part rules k more less m) (rules n) x u spelled in
         (suc k, at)
 
--- what its rule spells with the others, a nonterminal spells
-pub called_spelled : (rules : Rules) (n : Nonterminal) → IsSpelled (SpellsBy (Called rules) (rules n)) → IsSpelled (Called rules n)
-called_spelled rules n (x, u, spelled) = (x, u, (called_is rules n x u).1 spelled)
-
 -- what one of them refuses
 abbrev pub BarsAtSome : (ℕ → Bar) → Bar
 BarsAtSome levels u rest fault = (most : ℕ) × levels most u rest fault

@@ -26,9 +26,6 @@ apart_begins kinds others (token ∷ tokens) apart h k = are_apart_sound kinds o
 pub one_refused : (refusals : List Refusal) (rest : List PlacedLexeme) (one two : SqlFault) → IsRefused refusals rest one → IsRefused refusals rest two → one ≡ two
 one_refused refusals rest one two first second = cc
 
-pub one_here : (refusals : List Refusal) → HasOneFault (BarsHere refusals)
-one_here refusals u rest one two first second = one_refused refusals rest one two first.1 second.1
-
 -- ---- the one and then the other
 
 module _ {A B C : Type 0} (f : A → B → C) (First : Form A) (Second : A → Form B) (first : Bar) (second : A → Bar) (fit : BothFit First Second first second) where

@@ -87,18 +87,10 @@ free_setup : has_no_subquery_by ends marks setup_statement ≡ true
 unfolding ends marks rules setup_statement supported_in_setup created name names public_name e.behind_dot e.behind_public e.column e.operation_or_column e.old_column e.new_column e.named e.word_or_named e.plain_atom e.atom e.signed e.product e.sum_sign e.summand e.sum e.comparison_sign e.comparison e.negated e.null_or_distinct e.is_test e.test e.negation e.conjunction e.expression e.whole_expression c.where_part c.given c.row_values c.from_table c.source c.column_list c.insert c.assignment c.update c.delete c.columns c.lock_mode c.lock c.select c.constraints c.constraint_mode c.set_constraints b.else_if b.otherwise b.if_statement b.raise b.return_ b.body_statement b.block b.code t.work t.isolation_level t.isolation t.begin t.start_transaction t.savepoint_name t.rollback t.savepoint t.release k.kind k.constant k.initially k.behind_deferrable k.behind_not_deferrable k.initially_alone k.deferring k.given_timing k.perhaps_timing k.timing_without k.matching k.setting k.action k.actions k.target k.not_null k.named_constraint k.others_then k.column_constraints k.other_column_constraints k.reference_end k.column_item k.table_primary_key k.table_unique k.table_foreign_key k.bare_table_constraint k.table_constraint k.item k.items k.create_table k.added k.alter_table g.no_arguments g.create_function g.insert_event g.delete_event g.update_event g.events g.transition_tables g.referencing g.fires_for g.when_part g.executes g.watched g.fired g.create_trigger g.create_constraint_trigger
 free_setup = refl
 
-session_ends_apart : are_apart (Sign OpenParen ∷ []) (ends_by ends marks session_statement) ≡ true
-unfolding ends marks rules session_statement supported_in_session block_statement name names public_name e.behind_dot e.behind_public e.column e.operation_or_column e.old_column e.new_column e.named e.word_or_named e.plain_atom e.atom e.signed e.product e.sum_sign e.summand e.sum e.comparison_sign e.comparison e.negated e.null_or_distinct e.is_test e.test e.negation e.conjunction e.expression e.whole_expression c.where_part c.given c.row_values c.from_table c.source c.column_list c.insert c.assignment c.update c.delete c.columns c.lock_mode c.lock c.select c.constraints c.constraint_mode c.set_constraints b.else_if b.otherwise b.if_statement b.raise b.return_ b.body_statement b.block b.code t.work t.isolation_level t.isolation t.begin t.start_transaction t.savepoint_name t.rollback t.savepoint t.release k.kind k.constant k.initially k.behind_deferrable k.behind_not_deferrable k.initially_alone k.deferring k.given_timing k.perhaps_timing k.timing_without k.matching k.setting k.action k.actions k.target k.not_null k.named_constraint k.others_then k.column_constraints k.other_column_constraints k.reference_end k.column_item k.table_primary_key k.table_unique k.table_foreign_key k.bare_table_constraint k.table_constraint k.item k.items k.create_table k.added k.alter_table g.no_arguments g.create_function g.insert_event g.delete_event g.update_event g.events g.transition_tables g.referencing g.fires_for g.when_part g.executes g.watched g.fired g.create_trigger g.create_constraint_trigger
-session_ends_apart = refl
-
-setup_ends_apart : are_apart (Sign OpenParen ∷ []) (ends_by ends marks setup_statement) ≡ true
-unfolding ends marks rules setup_statement supported_in_setup created name names public_name e.behind_dot e.behind_public e.column e.operation_or_column e.old_column e.new_column e.named e.word_or_named e.plain_atom e.atom e.signed e.product e.sum_sign e.summand e.sum e.comparison_sign e.comparison e.negated e.null_or_distinct e.is_test e.test e.negation e.conjunction e.expression e.whole_expression c.where_part c.given c.row_values c.from_table c.source c.column_list c.insert c.assignment c.update c.delete c.columns c.lock_mode c.lock c.select c.constraints c.constraint_mode c.set_constraints b.else_if b.otherwise b.if_statement b.raise b.return_ b.body_statement b.block b.code t.work t.isolation_level t.isolation t.begin t.start_transaction t.savepoint_name t.rollback t.savepoint t.release k.kind k.constant k.initially k.behind_deferrable k.behind_not_deferrable k.initially_alone k.deferring k.given_timing k.perhaps_timing k.timing_without k.matching k.setting k.action k.actions k.target k.not_null k.named_constraint k.others_then k.column_constraints k.other_column_constraints k.reference_end k.column_item k.table_primary_key k.table_unique k.table_foreign_key k.bare_table_constraint k.table_constraint k.item k.items k.create_table k.added k.alter_table g.no_arguments g.create_function g.insert_event g.delete_event g.update_event g.events g.transition_tables g.referencing g.fires_for g.when_part g.executes g.watched g.fired g.create_trigger g.create_constraint_trigger
-setup_ends_apart = refl
-
 pub end_so : (n : Nonterminal) (token : PlacedLexeme) → is_of (ends_by ends marks (rules n)) token ≡ true → is_of (ends n) token ≡ true
 end_so n token = are_among_sound (ends_by ends marks (rules n)) (ends n) token (ended_rules n)
 
--- 3. So a subquery stands in no beginning of a statement, and no statement ends with a `(`.
+-- 3. So a subquery stands in no beginning of a statement.
 no_subquery : {A : Type 0} (r : Rule A) → is_fit_by marks r ≡ true → has_no_subquery_by ends marks r ≡ true → (u : List PlacedLexeme) → Begins (Spells r) u → HasSubquery u → ⊥
 no_subquery r fit free u (behind, x, spelled) s =
     no_subquery_rule rules marks ends rules_fit end_so free_rules r fit free x (u ++ behind) spelled (subquery_of_beginning u behind s)
@@ -108,15 +100,3 @@ no_subquery_in_session = no_subquery session_statement session_statement_fits fr
 
 pub no_subquery_in_setup : (u : List PlacedLexeme) → Begins (Spells setup_statement) u → HasSubquery u → ⊥
 no_subquery_in_setup = no_subquery setup_statement setup_statement_fits free_setup
-
-no_paren_ends : {A : Type 0} (r : Rule A) → is_fit_by marks r ≡ true → are_apart (Sign OpenParen ∷ []) (ends_by ends marks r) ≡ true
-    → (x : A) (u : List PlacedLexeme) (token : PlacedLexeme) → Spells r x (u ++ token ∷ []) → fits (Sign OpenParen) token ≡ true → ⊥
-no_paren_ends r fit apart x u token spelled opened =
-    are_apart_sound (Sign OpenParen ∷ []) (ends_by ends marks r) token apart (or_left (fits (Sign OpenParen) token) false opened)
-    (ended_rule rules marks ends rules_fit end_so r fit x u token spelled)
-
-pub session_ends_in_no_paren : (x : Statement) (u : List PlacedLexeme) (token : PlacedLexeme) → Spells session_statement x (u ++ token ∷ []) → fits (Sign OpenParen) token ≡ true → ⊥
-session_ends_in_no_paren = no_paren_ends session_statement session_statement_fits session_ends_apart
-
-pub setup_ends_in_no_paren : (x : Statement) (u : List PlacedLexeme) (token : PlacedLexeme) → Spells setup_statement x (u ++ token ∷ []) → fits (Sign OpenParen) token ≡ true → ⊥
-setup_ends_in_no_paren = no_paren_ends setup_statement setup_statement_fits setup_ends_apart

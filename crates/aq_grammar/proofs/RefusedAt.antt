@@ -41,7 +41,7 @@ first_is first rest is = is_paren first.lexeme (and_parts (fits (Sign OpenParen)
 as_token : (token : PlacedLexeme) (lexeme : Lexeme) → token.lexeme ≡ lexeme → token ≡ record { line = token.line; lexeme = lexeme }
 as_token token lexeme e = ap (λ (x : Lexeme). let t : PlacedLexeme = record { line = token.line; lexeme = x } in t) e
 
-pair_within : (u before : List PlacedLexeme) (first second : PlacedLexeme) (more rest : List PlacedLexeme) → u ≡ before ++ first ∷ second ∷ more
+pub pair_within : (u before : List PlacedLexeme) (first second : PlacedLexeme) (more rest : List PlacedLexeme) → u ≡ before ++ first ∷ second ∷ more
     → begins_subquery (first ∷ second ∷ rest) ≡ true → HasSubquery u
 pair_within u before first second more rest e is =
     let pair = pair_is first second rest is in

@@ -151,18 +151,10 @@ block_refused_behind room fault tokens rest after statements next so_far begin r
     refuses_with body_words (refused_in_code room) (reads (ended_statement room)) fault (statements ++ next ∷ []) after _
     (next_stands room tokens rest after statements next so_far begin read) refuses
 
-pub block_ends : (room : ℕ) (tokens rest : List PlacedLexeme) (statements : List BodyStatement) → IsBlock room tokens rest statements → begins body_words rest ≡ false
-    → reads_called (Block room) tokens ≡ Read statements rest
-block_ends room tokens rest statements so_far ended =
-    ends_with_all body_words (refused_in_code room) (reads (ended_statement room)) statements rest _ so_far.stands so_far.free ended
-
 -- what has been read of the ELSIFs
 pub record AreElseIfs (room : ℕ) (tokens rest : List PlacedLexeme) (branches : List ElseIf) : Type 0 where
   pub stands : Stands (Keyword (codes "elsif") ∷ []) [] (reads (else_if room)) branches rest (reads (else_ifs room) tokens)
   pub no_longer : length rest ≤ length tokens
-
-pub else_ifs_begin : (room : ℕ) (tokens : List PlacedLexeme) → AreElseIfs room tokens tokens []
-else_ifs_begin room tokens = record { stands = many_begin (Keyword (codes "elsif") ∷ []) [] (reads (else_if room)) tokens; no_longer = le_refl (length tokens) }
 
 pub else_ifs_go_on : (room : ℕ) (tokens rest after : List PlacedLexeme) (branches : List ElseIf) (next : ElseIf) → AreElseIfs room tokens rest branches
     → begins (Keyword (codes "elsif") ∷ []) rest ≡ true → reads (else_if room) rest ≡ Read next after → AreElseIfs room tokens after (branches ++ next ∷ [])
@@ -173,13 +165,3 @@ else_ifs_go_on room tokens rest after branches next so_far begin read =
       stands = goes_on_with (Keyword (codes "elsif") ∷ []) [] (reads (else_if room)) branches rest after next _ shorter so_far.stands refl begin read;
       no_longer = omega arith;
     }
-
-pub else_ifs_fail : (room : ℕ) (fault : ReadFault) (tokens rest : List PlacedLexeme) (branches : List ElseIf) → AreElseIfs room tokens rest branches
-    → begins (Keyword (codes "elsif") ∷ []) rest ≡ true → Fails fault (reads (else_if room) rest) → Fails fault (reads (else_ifs room) tokens)
-else_ifs_fail room fault tokens rest branches so_far begin fails =
-    fails_with (Keyword (codes "elsif") ∷ []) [] (reads (else_if room)) fault branches rest _
-    (some_tokens (Keyword (codes "elsif") ∷ []) [] (reads (else_if room)) rest begin) so_far.stands refl begin fails
-
-pub else_ifs_end : (room : ℕ) (tokens rest : List PlacedLexeme) (branches : List ElseIf) → AreElseIfs room tokens rest branches
-    → begins (Keyword (codes "elsif") ∷ []) rest ≡ false → reads (else_ifs room) tokens ≡ Read branches rest
-else_ifs_end room tokens rest branches so_far ended = ends_with_all (Keyword (codes "elsif") ∷ []) [] (reads (else_if room)) branches rest _ so_far.stands refl ended

@@ -285,9 +285,6 @@ with_front before found = found >>= λ others rest. Read (before ++ others) rest
 pub record IsReadSoFar (has_default : Bool) (before : List ColumnConstraint) (tokens : List PlacedLexeme) (total : Others) : Type 0 where
   pub same : with_front before (others_of has_default tokens) ≡ total
 
-pub so_far_none : (tokens : List PlacedLexeme) → IsReadSoFar false [] tokens (others_of false tokens)
-so_far_none tokens = record { same = handed_on (others_of false tokens) }
-
 with_one : (before : List ColumnConstraint) (constraint : ColumnConstraint) (found : Others)
     → with_front before (found >>= λ others last. Read (constraint ∷ others) last) ≡ with_front (before ++ constraint ∷ []) found
 with_one before constraint (Read others rest) = ap (λ (all : List ColumnConstraint). Read all rest) (sym (append_assoc before (constraint ∷ []) others))

@@ -46,9 +46,6 @@ called_any n tokens = shortens_if_any (marks n).is_empty (length tokens) (reads_
 pub no_longer : {A : Type 0} (r : Rule A) (tokens rest : List PlacedLexeme) (x : A) → reads r tokens ≡ Read x rest → length rest ≤ length tokens
 no_longer r tokens rest x read = (subst (λ outcome. Shortens true (length tokens) outcome) read (shortens_any reads_called called_any r tokens)).0
 
-pub no_longer_called : (n : Nonterminal) (tokens rest : List PlacedLexeme) (x : ValueOf n) → reads_called n tokens ≡ Read x rest → length rest ≤ length tokens
-no_longer_called n tokens rest x read = (subst (λ outcome. Shortens true (length tokens) outcome) read (called_any n tokens)).0
-
 -- the operators so far give an expression, and no more tokens are left than there were
 pub record Goes {A : Type 0} (joined : Expr → A → Expr) (kinds : List Terminal) (r : Rule A) (first : Expr) (behind : List PlacedLexeme) (left : Expr) (rest tokens : List PlacedLexeme)
     : Type 0 where

@@ -56,8 +56,8 @@ fn statement(printer: &mut Printer, s: &Statement) -> Result<(), NoMemory>
         Statement::Commit => printer.word("COMMIT"),
         Statement::Rollback => printer.word("ROLLBACK"),
         Statement::Savepoint(name) => named(printer, &["SAVEPOINT"], name),
-        Statement::Release(name) => named(printer, &["RELEASE", "SAVEPOINT"], name),
-        Statement::RollbackTo(name) => named(printer, &["ROLLBACK", "TO", "SAVEPOINT"], name),
+        Statement::Release(name) => named(printer, &["RELEASE"], name),
+        Statement::RollbackTo(name) => named(printer, &["ROLLBACK", "TO"], name),
     }
 }
 

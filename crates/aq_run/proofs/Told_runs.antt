@@ -24,7 +24,7 @@ steps_of-with_step s (first ∷ others) =
     cond_both (eqb s first.0) ((first.0, first.1 + 1) ∷ others) ((s, 1) ∷ first ∷ others) (λ (r : List (ℕ × ℕ)). steps_of r ≡ s ∷ steps_of (first ∷ others))
     (λ e. rw (add-one, eqb-true s first.0 e) refl) (λ _. refl)
 
-steps_of-runs_of : (w : Schedule) → steps_of (runs_of w) ≡ w
+pub steps_of-runs_of : (w : Schedule) → steps_of (runs_of w) ≡ w
 steps_of-runs_of [] = refl
 steps_of-runs_of (s ∷ w) = steps_of-with_step s (runs_of w) ∙ ap (λ (t : Schedule). s ∷ t) (steps_of-runs_of w)
 
@@ -61,7 +61,7 @@ neither : (a b : Bool) → not (a || b) ≡ true → (a ≡ false) × (not b ≡
 neither true b e = absurd (true≢false (sym e))
 neither false b e = (refl, e)
 
-not_there : (names : List Text) (name : Text) (s : ℕ) → is_apart_from names name ≡ true → s < length names → name ≡ name_at names s → ⊥
+pub not_there : (names : List Text) (name : Text) (s : ℕ) → is_apart_from names name ≡ true → s < length names → name ≡ name_at names s → ⊥
 not_there [] name s apart below e = absurd (omega arith)
 not_there (first ∷ names) name zero apart below e =
     true≢false (sym ((bytes_decides name first).1 e) ∙ (neither (same_text name first) (list_any (same_text name) names) apart).0)

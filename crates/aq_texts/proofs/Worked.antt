@@ -52,7 +52,7 @@ signs =
 -- names that are quoted: a reserved word, upper case, a quote, a leading digit
 names : statement_line (statements.Savepoint (codes "Select")) ++ statement_line (statements.Release (codes "select"))
     ++ statement_line (statements.RollbackTo (codes "a\"b")) ++ statement_line (statements.Savepoint (codes "1a")) ++ statement_line (statements.Savepoint (codes "x$1"))
-    ≡ codes "SAVEPOINT \"Select\";\nRELEASE SAVEPOINT \"select\";\nROLLBACK TO SAVEPOINT \"a\"\"b\";\nSAVEPOINT \"1a\";\nSAVEPOINT x$1;\n"
+    ≡ codes "SAVEPOINT \"Select\";\nRELEASE \"select\";\nROLLBACK TO \"a\"\"b\";\nSAVEPOINT \"1a\";\nSAVEPOINT x$1;\n"
 names = refl
 
 -- a table: what is left out, and the order of what is printed
@@ -105,6 +105,6 @@ script : canon (record {
       }
       ∷ [];
   schedule = Some (record { name = codes "a"; count = 12 } ∷ record { name = codes "b"; count = 1 } ∷ []);
-}) ≡ codes "\\session a\nBEGIN ISOLATION LEVEL REPEATABLE READ;\nRELEASE SAVEPOINT s;\nCOMMIT;\n\\schedule a*12 b*1\n"
+}) ≡ codes "\\session a\nBEGIN ISOLATION LEVEL REPEATABLE READ;\nRELEASE s;\nCOMMIT;\n\\schedule a*12 b*1\n"
 unfolding digits
 script = refl

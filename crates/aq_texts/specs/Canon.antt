@@ -334,7 +334,7 @@ create_constraint_trigger s =
 
 -- ---- statements
 
--- READ COMMITTED is left out
+-- Words that may be left out are left out, as WORK, and SAVEPOINT before a savepoint's name. READ COMMITTED is left out too.
 abbrev pub isolation : Isolation → List Written
 isolation isolations.ReadCommitted = []
 isolation isolations.RepeatableRead = say (codes "ISOLATION") ∷ say (codes "LEVEL") ∷ say (codes "REPEATABLE") ∷ say (codes "READ") ∷ []
@@ -355,8 +355,8 @@ statement (statements.StartTransaction level) = say (codes "START") ∷ say (cod
 statement statements.Commit = say (codes "COMMIT") ∷ []
 statement statements.Rollback = say (codes "ROLLBACK") ∷ []
 statement (statements.Savepoint name) = say (codes "SAVEPOINT") ∷ Name name ∷ []
-statement (statements.Release name) = say (codes "RELEASE") ∷ say (codes "SAVEPOINT") ∷ Name name ∷ []
-statement (statements.RollbackTo name) = say (codes "ROLLBACK") ∷ say (codes "TO") ∷ say (codes "SAVEPOINT") ∷ Name name ∷ []
+statement (statements.Release name) = say (codes "RELEASE") ∷ Name name ∷ []
+statement (statements.RollbackTo name) = say (codes "ROLLBACK") ∷ say (codes "TO") ∷ Name name ∷ []
 
 -- a line of tokens
 abbrev pub line : List Written → Text

@@ -102,7 +102,7 @@ is_minus Sign = true
 is_minus Call = false
 is_minus Repeat = false
 
--- Two signs that join would begin a comment. No expression is printed with two of them in a row.
+-- Two signs that join would begin a comment. No expression that was read is printed with two of them in a row.
 abbrev pub blank_between : Written → Written → Text
 blank_between first second = if (joins_next first && not (is_minus first && is_minus second)) || joins_last second then [] else 32 ∷ []
 

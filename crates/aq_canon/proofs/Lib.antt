@@ -1,0 +1,10 @@
+pub mod Outcomes
+pub mod Repeated
+pub mod Statements
+pub mod Sessions
+pub mod Schedules
+pub mod Scripts
+pub mod ReadAgain
+pub mod Canonical
+pub mod ScheduleLines
+pub mod Alike
