@@ -6,3 +6,8 @@ pub mod Names
 pub mod Lengths
 pub mod Kinds
 pub mod Binding
+pub mod Constraints
+pub mod References
+pub mod Tables
+pub mod Triggers
+pub mod Setup
