@@ -1,6 +1,6 @@
 -- What a statement says once its names are numbers, and its faults: all of its names come before its lengths, and these before its kinds.
 -- The first fault is the answer (PostgreSQL source, analyze.c).
-use Rattle.std.specs.Prelude.{ℕ, Bool, true, false, not, List, [], ◌∷◌, ◌++◌, codes, Option, Some, None, Result, Ok, Err, if◌then◌else◌, map, option_map, slice_get, fold}
+use Rattle.std.specs.Prelude.{ℕ, Bool, false, not, List, [], ◌∷◌, ◌++◌, codes, Option, Some, None, Result, Ok, Err, if◌then◌else◌, map, option_map, slice_get}
 use Rattle.std.specs.List.{list_any, flat_map}
 use Rattle.aq_base.specs.Names.{Text}
 use Rattle.aq_base.specs.declared.fault.SqlFault.{SqlFault}
@@ -28,8 +28,8 @@ use Rattle.aq_base.specs.declared.body.ElseIf.{ElseIf-F}
 use Rattle.aq_base.specs.declared.statement.Statement.{Statement}
 use Rattle.aq_base.specs.declared.statement.Statement.TheVariants as statements
 use Rattle.aq_setup.specs.BoundTrees.{BoundExpr, Constant, Column, Old, New, Operation, Negate, Multiply, Add, Subtract, Compare, IsNull, IsNotNull, IsDistinct, IsNotDistinct, Not, And, Or, BoundGiven, Given_value, Given_default, BoundFrom, From_table, From_old_table, From_new_table, BoundSource, From_values, From_query, BoundInsert, BoundAssignment, BoundUpdate, BoundDelete, BoundSelect, BoundSet, Bound, Inserts, Updates, Deletes, Selects, Sets, Begins, Starts, Commits, Rolls_back, Saves, Releases, Rolls_back_to, BoundBody, Ends, If, Raises, Returns, Runs_insert, Runs_update, Runs_delete, Sets_constraints}
-use Rattle.aq_setup.specs.Catalogs.{Catalog, Constraint, table_columns, constraints_named, Column as TableColumn}
-use Rattle.aq_setup.specs.Scopes.{Setting, in_session, Scope, no_row, table_scope, is_text, query_scope, qualified_cols, number_of_table, number_of_column}
+use Rattle.aq_setup.specs.Catalogs.{Catalog, table_columns, constraints_named, Column as TableColumn}
+use Rattle.aq_setup.specs.Scopes.{Setting, in_session, Scope, no_row, table_scope, is_text, query_scope, number_of_table, number_of_column}
 use Rattle.aq_setup.specs.Names.{expression_names, insert_names, update_names, delete_names, select_names}
 use Rattle.aq_setup.specs.Lengths.{insert_lengths, update_lengths}
 use Rattle.aq_setup.specs.Kinds.{boolean_kinds, insert_kinds, update_kinds, delete_kinds, select_kinds}

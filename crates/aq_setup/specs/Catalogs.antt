@@ -1,6 +1,6 @@
 -- What a setup makes: tables, keys, constraints, functions and triggers, each under a number (PostgreSQL manual, chapter "System Catalogs",
 -- pages pg_class, pg_attribute, pg_constraint, pg_proc and pg_trigger).
-use Rattle.std.specs.Prelude.{ℕ, Bool, true, false, ◌&&◌, ◌==◌, List, [], ◌∷◌, Option, Some, None, if◌then◌else◌, filter, find, map, position, option_map}
+use Rattle.std.specs.Prelude.{ℕ, Bool, true, false, ◌&&◌, ◌==◌, List, [], ◌∷◌, Option, Some, None, if◌then◌else◌, filter, find, map, position, option_map, slice_get}
 use Rattle.std.specs.List.{list_any, enumerate_from, flat_map}
 use Rattle.std.specs.Ordering.{nat_cmp, is_lt}
 use Rattle.std.specs.Cmp.Lexicographic.{slice_cmp}
@@ -113,6 +113,9 @@ columns_of (Some table) = table.cols
 
 abbrev pub table_columns : Catalog → Text → List Column
 table_columns cat name = columns_of (table_named cat name)
+
+abbrev pub columns_at : Catalog → ℕ → List Column
+columns_at cat table = columns_of (slice_get cat.tables table)
 
 abbrev pub column_number : List Column → Text → Option ℕ
 column_number cols name = position (λ col. same_text col.name name) cols

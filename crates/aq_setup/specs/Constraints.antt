@@ -1,6 +1,6 @@
 -- The constraints that a CREATE TABLE or an ALTER TABLE adds, and their names (PostgreSQL manual, page CREATE TABLE; PostgreSQL source,
 -- indexcmds.c, ChooseIndexName; tablecmds.c, ChooseForeignKeyConstraintNameAddition).
-use Rattle.std.specs.Prelude.{ℕ, ◌+◌, Bool, true, false, List, [], ◌∷◌, ◌++◌, codes, Option, Some, None, if◌then◌else◌, map, find, unwrap_or, length, filter}
+use Rattle.std.specs.Prelude.{ℕ, ◌+◌, Bool, true, false, List, [], ◌∷◌, ◌++◌, codes, Option, Some, None, find, unwrap_or}
 use Rattle.std.specs.List.{flat_map}
 use Rattle.std.specs.Fmt.{decimal}
 use Rattle.aq_base.specs.Names.{Text, is_apart_from, primary_key_name}

@@ -1,6 +1,6 @@
 -- The faults of statements that are bound and of setups, with their codes and texts, in the order in which they are tried
 -- (PostgreSQL manual, appendix "PostgreSQL Error Codes").
-use Rattle.std.specs.Prelude.{List, [], ◌∷◌, ◌++◌, None, codes}
+use Rattle.std.specs.Prelude.{[], ◌∷◌, ◌++◌, None, codes}
 use Rattle.aq_base.specs.Names.{Text}
 use Rattle.aq_base.specs.declared.fault.SqlFault.{SqlFault}
 use Rattle.aq_base.specs.declared.script.Kind.{Kind}

@@ -1,6 +1,6 @@
 -- The kinds of expressions and the faults of kinds, from left to right, operands before their operator (PostgreSQL manual, chapter "Type
 -- Conversion"). A NULL literal has no kind of its own and fits every kind. Integer and bigint fit each other.
-use Rattle.std.specs.Prelude.{Bool, true, false, ◌&&◌, ◌||◌, List, [], ◌∷◌, ◌++◌, codes, Option, Some, None, if◌then◌else◌, option_and_then, zip}
+use Rattle.std.specs.Prelude.{Bool, true, false, ◌&&◌, List, [], ◌∷◌, ◌++◌, codes, Option, Some, None, if◌then◌else◌, zip}
 use Rattle.std.specs.List.{flat_map}
 use Rattle.aq_base.specs.Names.{Text}
 use Rattle.aq_base.specs.declared.fault.SqlFault.{SqlFault}

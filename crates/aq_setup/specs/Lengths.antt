@@ -1,6 +1,6 @@
 -- The faults of the lengths in a statement whose names are there: columns that are assigned twice, rows of VALUES of unequal length, more
 -- values than columns, fewer values than named columns (PostgreSQL source, analyze.c, transformInsertStmt; rewriteHandler.c, process_matched_tle).
-use Rattle.std.specs.Prelude.{ℕ, Bool, not, List, [], ◌∷◌, ◌++◌, ◌==◌, Option, Some, None, if◌then◌else◌, length, map, nat_lt}
+use Rattle.std.specs.Prelude.{ℕ, List, [], ◌∷◌, ◌++◌, ◌==◌, Option, Some, None, if◌then◌else◌, length, map, nat_lt}
 use Rattle.std.specs.List.{list_all}
 use Rattle.aq_base.specs.Names.{Text}
 use Rattle.aq_base.specs.declared.fault.SqlFault.{SqlFault}

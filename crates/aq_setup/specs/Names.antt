@@ -1,6 +1,6 @@
 -- The faults of the names in a statement, from left to right: tables that are not there, columns that are not there, columns that an INSERT
 -- names twice (PostgreSQL source, parse_relation.c, parse_target.c). The table behind FROM comes before the columns that a query shows.
-use Rattle.std.specs.Prelude.{Bool, true, false, List, [], ◌∷◌, ◌++◌, Option, Some, None, if◌then◌else◌, map, is_some}
+use Rattle.std.specs.Prelude.{List, [], ◌∷◌, ◌++◌, Option, Some, None, if◌then◌else◌, map, is_some}
 use Rattle.std.specs.List.{list_any, flat_map}
 use Rattle.aq_base.specs.Names.{Text, same_text}
 use Rattle.aq_base.specs.declared.fault.SqlFault.{SqlFault}

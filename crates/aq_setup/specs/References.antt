@@ -1,7 +1,7 @@
 -- What a foreign key refers to, and its faults (PostgreSQL manual, page CREATE TABLE, REFERENCES; PostgreSQL source, tablecmds.c,
 -- ATAddForeignKeyConstraint). The catalog is the one with the keys of the statement itself.
-use Rattle.std.specs.Prelude.{ℕ, Bool, true, false, not, ◌&&◌, ◌==◌, List, [], ◌∷◌, ◌++◌, Option, Some, None, if◌then◌else◌, map, length, option_map, slice_get, zip}
-use Rattle.std.specs.List.{list_all, list_any, flat_map}
+use Rattle.std.specs.Prelude.{ℕ, Bool, true, ◌&&◌, ◌==◌, List, [], ◌∷◌, Option, Some, None, if◌then◌else◌, map, length, option_map, slice_get, zip}
+use Rattle.std.specs.List.{list_all, list_any}
 use Rattle.aq_base.specs.Names.{Text}
 use Rattle.aq_base.specs.declared.fault.SqlFault.{SqlFault}
 use Rattle.aq_base.specs.declared.script.Kind.{Kind}
@@ -54,6 +54,6 @@ all_kinds_fit child names parent numbers =
 abbrev pub kind_faults : Catalog → Text → Text → List Text → Reference → List SqlFault
 kind_faults cat table name cols r =
     elim (parent_cols cat r) [
-      None ↦ []
-    | Some numbers ↦ if all_kinds_fit (table_columns cat table) cols (table_columns cat r.table) numbers then [] else unequal_kinds name ∷ []
+      | None ↦ []
+      | Some numbers ↦ if all_kinds_fit (table_columns cat table) cols (table_columns cat r.table) numbers then [] else unequal_kinds name ∷ []
     ]

@@ -1,6 +1,6 @@
 -- What the names in a statement and in its expressions may stand for (PostgreSQL manual, section "Column References", and chapter
 -- "PL/pgSQL", section "Trigger Functions").
-use Rattle.std.specs.Prelude.{ℕ, Bool, true, false, ◌||◌, List, [], ◌∷◌, Option, Some, None, if◌then◌else◌, unwrap_or}
+use Rattle.std.specs.Prelude.{ℕ, Bool, false, ◌||◌, List, [], ◌∷◌, Option, Some, None, if◌then◌else◌, unwrap_or}
 use Rattle.std.specs.List.{list_any}
 use Rattle.aq_base.specs.Names.{Text, same_text}
 use Rattle.aq_setup.specs.Catalogs.{Catalog, Column, table_number, table_columns, column_number}

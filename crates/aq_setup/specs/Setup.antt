@@ -1,6 +1,5 @@
 -- What the setup of a script makes: the catalog, or the line of the first statement that is refused, with its fault.
-use Rattle.std.specs.Prelude.{ℕ, Bool, ◌||◌, List, [], ◌∷◌, ◌++◌, Result, Ok, Err, if◌then◌else◌, is_some}
-use Rattle.aq_base.specs.Names.{Text}
+use Rattle.std.specs.Prelude.{ℕ, ◌||◌, List, [], ◌∷◌, ◌++◌, Result, Ok, Err, if◌then◌else◌, is_some}
 use Rattle.aq_base.specs.declared.fault.SqlFault.{SqlFault}
 use Rattle.aq_base.specs.declared.trigger.CreateFunction.{CreateFunction}
 use Rattle.aq_base.specs.declared.statement.Statement.{Statement}
@@ -51,8 +50,8 @@ abbrev pub setup_from : List NativeName → Catalog → List Placed → Result C
 setup_from natives cat [] = Ok cat
 setup_from natives cat (placed ∷ others) =
     elim (define natives cat placed.statement) [
-      Ok next ↦ setup_from natives next others
-    | Err fault ↦ Err (record { line = placed.line; fault = fault })
+      | Ok next ↦ setup_from natives next others
+      | Err fault ↦ Err (record { line = placed.line; fault = fault })
     ]
 
 abbrev pub setup : List NativeName → Script → Result Catalog RefusedSetup

@@ -25,7 +25,7 @@ use Rattle.aq_base.specs.declared.table.TableItem.TheVariants as items
 use Rattle.aq_base.specs.declared.table.CreateTable.{CreateTable}
 use Rattle.aq_base.specs.declared.table.AlterTable.{AlterTable}
 use Rattle.aq_base.specs.declared.trigger.Each.TheVariants as each
-use Rattle.aq_setup.specs.Catalogs.{Catalog, Column, Table, Does, Check, Parent, Trigger, table_number, table_columns, column_number, places, is_number_in, primary_cols, constraint_names}
+use Rattle.aq_setup.specs.Catalogs.{Catalog, Column, Table, Does, Check, Parent, Trigger, table_number, table_columns, columns_at, places, is_number_in, primary_cols, constraint_names}
 use Rattle.aq_setup.specs.Scopes.{number_of_table, number_of_column, repeats, repeats_behind}
 use Rattle.aq_setup.specs.Names.{unknown, table_faults}
 use Rattle.aq_setup.specs.Kinds.{same_kind, constant_kind}
@@ -106,7 +106,7 @@ never_deferred = record { deferrable = false; deferred = false }
 abbrev pub with_key : ℕ → Text → List Text → Catalog → Catalog
 with_key table name cols cat =
     record cat {
-      keys = cat.keys ++ record { name = name; table = table; cols = map (number_of_column (elim (slice_get cat.tables table) [ None ↦ [] | Some t ↦ t.cols ])) cols } ∷ [];
+      keys = cat.keys ++ record { name = name; table = table; cols = map (number_of_column (columns_at cat table)) cols } ∷ [];
       constraints = cat.constraints ++ record { name = name; table = table; decl = never_deferred } ∷ [];
     }
 
@@ -118,8 +118,8 @@ without_nulls cols table =
 abbrev pub with_not_null : ℕ → List Text → Catalog → Catalog
 with_not_null table names cat =
     elim (slice_get cat.tables table) [
-      None ↦ cat
-    | Some t ↦ record cat { tables = slice_set cat.tables table (without_nulls (map (number_of_column t.cols) names) t) }
+      | None ↦ cat
+      | Some t ↦ record cat { tables = slice_set cat.tables table (without_nulls (map (number_of_column t.cols) names) t) }
     ]
 
 abbrev pub with_constraint_key : ℕ → Text → TableConstraint → Catalog → Catalog
@@ -171,7 +171,7 @@ with_reference child f cat =
           ++ record {
             name = f.name;
             child = child;
-            child_cols = map (number_of_column (elim (slice_get cat.tables child) [ None ↦ [] | Some t ↦ t.cols ])) f.cols;
+            child_cols = map (number_of_column (columns_at cat child)) f.cols;
             parent = parent;
             parent_cols = unwrap_or (parent_cols cat f.reference) [];
             full = is_full f.reference.matching;

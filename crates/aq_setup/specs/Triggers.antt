@@ -1,6 +1,6 @@
 -- CREATE TRIGGER and CREATE CONSTRAINT TRIGGER: the faults in their order, and the trigger that is made (PostgreSQL manual, page CREATE
 -- TRIGGER; PostgreSQL source, trigger.c, CreateTriggerFiringOn).
-use Rattle.std.specs.Prelude.{ℕ, Bool, true, false, not, ◌&&◌, ◌||◌, ◌==◌, List, [], ◌∷◌, ◌++◌, codes, Option, Some, None, if◌then◌else◌, filter, is_some, is_none, length, map, nat_le, nat_lt, nat_eq, option_map, unwrap_or}
+use Rattle.std.specs.Prelude.{ℕ, Bool, true, false, not, ◌&&◌, ◌||◌, ◌==◌, List, [], ◌∷◌, ◌++◌, codes, Option, Some, None, if◌then◌else◌, filter, is_some, is_none, length, map, nat_lt, nat_eq, option_map, unwrap_or}
 use Rattle.std.specs.List.{list_any, flat_map, starts_with}
 use Rattle.aq_base.specs.Names.{Text, same_text}
 use Rattle.aq_base.specs.declared.fault.SqlFault.{SqlFault}
@@ -18,7 +18,7 @@ use Rattle.aq_base.specs.declared.trigger.Each.{Each}
 use Rattle.aq_base.specs.declared.trigger.Each.TheVariants as each
 use Rattle.aq_base.specs.declared.trigger.CreateTrigger.{CreateTrigger}
 use Rattle.aq_base.specs.declared.trigger.CreateConstraintTrigger.{CreateConstraintTrigger}
-use Rattle.aq_setup.specs.Catalogs.{Catalog, Column, Does, Check, Parent, Body, Native, Trigger, NativeName, table_number, table_columns, function_named, native_named, trigger_names}
+use Rattle.aq_setup.specs.Catalogs.{Catalog, Does, Check, Parent, Body, Native, Trigger, NativeName, table_number, table_columns, function_named, native_named, trigger_names}
 use Rattle.aq_setup.specs.Scopes.{Setting, no_row, number_of_table, number_of_column, repeats}
 use Rattle.aq_setup.specs.Names.{unknown, table_faults}
 use Rattle.aq_setup.specs.Tables.{names_taken}
@@ -262,8 +262,8 @@ made_trigger cat w =
 abbrev pub with_trigger_constraint : Wanted → Catalog → Catalog
 with_trigger_constraint w cat =
     elim w.timing [
-      None ↦ cat
-    | Some decl ↦ record cat { constraints = cat.constraints ++ record { name = w.name; table = number_of_table cat w.table; decl = decl } ∷ [] }
+      | None ↦ cat
+      | Some decl ↦ record cat { constraints = cat.constraints ++ record { name = w.name; table = number_of_table cat w.table; decl = decl } ∷ [] }
     ]
 
 abbrev pub with_trigger : Wanted → Catalog → Catalog
