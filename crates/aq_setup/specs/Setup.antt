@@ -10,24 +10,27 @@ use Rattle.aq_setup.specs.Catalogs.{Catalog, NativeName, no_tables, function_nam
 use Rattle.aq_setup.specs.Tables.{created, altered, with_added, create_table_faults, alter_table_faults}
 use Rattle.aq_setup.specs.Triggers.{plain_trigger, constraint_trigger, create_trigger_faults, with_trigger}
 use Rattle.aq_setup.specs.Binding.{unless_faulty}
+use Rattle.aq_setup.specs.Order.{SetupFaults, faultless, in_order}
 use Rattle.aq_setup.specs.Faults.{function_exists}
 
 -- a function's statements are looked at where a trigger names it
-abbrev pub create_function_faults : Catalog → List NativeName → CreateFunction → List SqlFault
+abbrev pub create_function_faults : Catalog → List NativeName → CreateFunction → SetupFaults
 create_function_faults cat natives s =
-    if is_some (function_named cat s.name) || is_some (native_named natives s.name) then function_exists s.name ∷ [] else []
+    record faultless {
+      exists = if is_some (function_named cat s.name) || is_some (native_named natives s.name) then function_exists s.name ∷ [] else [];
+    }
 
 abbrev pub with_function : CreateFunction → Catalog → Catalog
 with_function s cat = record cat { functions = cat.functions ++ record { name = s.name; body = s.body } ∷ [] }
 
 -- a statement of a session is none of a setup
-abbrev pub setup_faults : List NativeName → Catalog → Statement → List SqlFault
+abbrev pub setup_faults : List NativeName → Catalog → Statement → SetupFaults
 setup_faults natives cat (statements.CreateTable s) = create_table_faults cat s
 setup_faults natives cat (statements.AlterTable s) = alter_table_faults cat s
 setup_faults natives cat (statements.CreateFunction s) = create_function_faults cat natives s
 setup_faults natives cat (statements.CreateTrigger s) = create_trigger_faults cat natives (plain_trigger s)
 setup_faults natives cat (statements.CreateConstraintTrigger s) = create_trigger_faults cat natives (constraint_trigger s)
-setup_faults natives cat _ = []
+setup_faults natives cat _ = faultless
 
 -- the catalog with what a statement makes that is not refused
 abbrev pub defined : Catalog → Statement → Catalog
@@ -39,7 +42,7 @@ defined cat (statements.CreateConstraintTrigger s) = with_trigger (constraint_tr
 defined cat _ = cat
 
 abbrev pub define : List NativeName → Catalog → Statement → Result Catalog SqlFault
-define natives cat s = unless_faulty (setup_faults natives cat s) (defined cat s)
+define natives cat s = unless_faulty (in_order (setup_faults natives cat s)) (defined cat s)
 
 pub record RefusedSetup : Type 0 where
   pub line : ℕ

@@ -31,6 +31,7 @@ use Rattle.aq_setup.specs.Names.{unknown, table_faults}
 use Rattle.aq_setup.specs.Kinds.{same_kind, constant_kind}
 use Rattle.aq_setup.specs.Constraints.{of_item, constrained_columns, reference_of, is_primary, NamedConstraint, named}
 use Rattle.aq_setup.specs.References.{parent_cols, count_faults, key_faults, primary_faults, kind_faults}
+use Rattle.aq_setup.specs.Order.{SetupFaults, faultless}
 use Rattle.aq_setup.specs.Faults.{no_column, column_twice, over_limit, long_name, relation_exists, constraint_exists, many_primary_keys, wrong_default}
 
 -- ---- columns
@@ -243,13 +244,18 @@ constraint_unknown cat table c =
 abbrev pub missing_columns : Added → List SqlFault
 missing_columns a = map no_column (flat_map (λ n. constraint_unknown a.before a.table n.constraint) a.constraints)
 
--- 42830, both texts, then 42704, then the 42804 of foreign keys
-abbrev pub reference_faults : Added → List SqlFault
-reference_faults a =
-    flat_map (λ f. count_faults (keyed a) (length f.cols) f.reference) (referring a)
-    ++ (flat_map (λ f. key_faults (keyed a) f.reference) (referring a)
-    ++ (flat_map (λ f. primary_faults (keyed a) f.reference) (referring a)
-    ++ flat_map (λ f. kind_faults (keyed a) a.table f.name f.cols f.reference) (referring a)))
+-- 42830: first every unequal number of columns, then every reference to no key
+abbrev pub unreferable : Added → List SqlFault
+unreferable a =
+    flat_map (λ f. count_faults (keyed a) (length f.cols) f.reference) (referring a) ++ flat_map (λ f. key_faults (keyed a) f.reference) (referring a)
+
+-- 42704
+abbrev pub without_primary : Added → List SqlFault
+without_primary a = flat_map (λ f. primary_faults (keyed a) f.reference) (referring a)
+
+-- 42804 of foreign keys
+abbrev pub unequal_references : Added → List SqlFault
+unequal_references a = flat_map (λ f. kind_faults (keyed a) a.table f.name f.cols f.reference) (referring a)
 
 -- ---- faults of the statements
 
@@ -277,21 +283,28 @@ default_fits (Some found) col = if same_kind col.kind found then [] else wrong_d
 abbrev pub default_faults : Column → List SqlFault
 default_faults col = default_fits (constant_kind col.default) col
 
-abbrev pub create_table_faults : Catalog → CreateTable → List SqlFault
+abbrev pub create_table_faults : Catalog → CreateTable → SetupFaults
 create_table_faults cat s =
     let a : Added = created cat s in
-    table_limit cat ++ (column_limit s ++ (reference_limit a ++ (long_names a
-    ++ (table_exists cat s.table ++ (constraints_exist a
-    ++ (items_twice [] s.items ++ (second_primary a
-    ++ (missing_parents a ++ (missing_columns a
-    ++ (reference_faults a
-    ++ flat_map default_faults (declared_columns s.items)))))))))))
+    record faultless {
+      limits = table_limit cat ++ (column_limit s ++ (reference_limit a ++ long_names a));
+      exists = table_exists cat s.table ++ constraints_exist a;
+      twice = items_twice [] s.items ++ second_primary a;
+      missing = missing_parents a ++ missing_columns a;
+      referred = unreferable a;
+      unkeyed = without_primary a;
+      kinds = unequal_references a ++ flat_map default_faults (declared_columns s.items);
+    }
 
-abbrev pub alter_table_faults : Catalog → AlterTable → List SqlFault
+abbrev pub alter_table_faults : Catalog → AlterTable → SetupFaults
 alter_table_faults cat s =
     let a : Added = altered cat s in
-    reference_limit a ++ (long_names a
-    ++ (constraints_exist a
-    ++ (listed_twice s.constraint ++ (second_primary a
-    ++ (table_faults cat s.table ++ (missing_parents a ++ (missing_columns a
-    ++ reference_faults a)))))))
+    record faultless {
+      limits = reference_limit a ++ long_names a;
+      exists = constraints_exist a;
+      twice = listed_twice s.constraint ++ second_primary a;
+      missing = table_faults cat s.table ++ (missing_parents a ++ missing_columns a);
+      referred = unreferable a;
+      unkeyed = without_primary a;
+      kinds = unequal_references a;
+    }

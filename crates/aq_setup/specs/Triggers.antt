@@ -23,6 +23,7 @@ use Rattle.aq_setup.specs.Scopes.{Setting, no_row, number_of_table, number_of_co
 use Rattle.aq_setup.specs.Names.{unknown, table_faults}
 use Rattle.aq_setup.specs.Tables.{names_taken}
 use Rattle.aq_setup.specs.Binding.{bound_expression, condition_faults, body_faults, bound_body}
+use Rattle.aq_setup.specs.Order.{SetupFaults, faultless}
 use Rattle.aq_setup.specs.Faults.{no_column, column_twice, over_limit, trigger_exists, constraint_exists, no_function, transition_events, transition_columns, no_old_table, no_new_table, no_old_or_new, native_misused, trigger_reserved}
 
 -- a trigger as one of both statements asks for it
@@ -225,16 +226,18 @@ abbrev pub function_body_faults : Catalog → Wanted → List SqlFault
 function_body_faults cat w =
     elim (function_named cat w.function) [ None ↦ [] | Some found ↦ body_faults (trigger_setting cat w) found.body ]
 
-abbrev pub create_trigger_faults : Catalog → List NativeName → Wanted → List SqlFault
+abbrev pub create_trigger_faults : Catalog → List NativeName → Wanted → SetupFaults
 create_trigger_faults cat natives w =
-    trigger_limit cat
-    ++ (trigger_name_faults cat w
-    ++ (map column_twice (repeats (update_columns w))
-    ++ (table_faults cat w.table ++ (map no_column (flat_map (unknown (table_columns cat w.table)) (update_columns w)) ++ (function_faults cat natives w
-    ++ (transition_faults w
-    ++ (transition_op_faults w ++ (when_row_faults w ++ (native_faults cat natives w
-    ++ (reserved_faults w
-    ++ (when_faults cat w ++ function_body_faults cat w)))))))))))
+    record faultless {
+      limits = trigger_limit cat;
+      exists = trigger_name_faults cat w;
+      twice = map column_twice (repeats (update_columns w));
+      missing = table_faults cat w.table ++ (map no_column (flat_map (unknown (table_columns cat w.table)) (update_columns w)) ++ function_faults cat natives w);
+      transitions = transition_faults w;
+      forms = transition_op_faults w ++ (when_row_faults w ++ native_faults cat natives w);
+      reserved = reserved_faults w;
+      bodies = when_faults cat w ++ function_body_faults cat w;
+    }
 
 -- ---- the catalog that is made
 
