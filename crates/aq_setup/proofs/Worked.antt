@@ -23,7 +23,7 @@ use Rattle.aq_base.specs.declared.trigger.Each.TheVariants as each
 use Rattle.aq_base.specs.declared.statement.Statement.{Statement}
 use Rattle.aq_base.specs.declared.statement.Statement.TheVariants as statements
 use Rattle.aq_setup.specs.Catalogs.{Catalog, no_tables, triggers_of}
-use Rattle.aq_setup.specs.Faults.{no_relation, no_column, no_such_key, unequal_rows, wrong_value, no_operator, assigned_twice, long_name, constraint_exists}
+use Rattle.aq_setup.specs.Faults.{no_relation, no_column, no_such_key, unequal_rows, wrong_value, no_operator, assigned_twice, long_name, constraint_exists, trigger_reserved}
 use Rattle.aq_setup.specs.Constraints.{named}
 use Rattle.aq_setup.specs.Binding.{bind}
 use Rattle.aq_setup.specs.Setup.{define, defined, setup}
@@ -192,3 +192,7 @@ refused_line : setup [] (record {
   schedule = None;
 }) ≡ Err (record { line = 3; fault = no_relation (codes "c") })
 refused_line = refl
+
+reserved_name : define [] with_function_f (on_insert (codes "RI_ConstraintTrigger_x")) ≡ Err (trigger_reserved (codes "RI_ConstraintTrigger_x"))
+unfolding digits
+reserved_name = refl
