@@ -1,5 +1,5 @@
--- The order in which the faults of a statement of the setup are tried: line by line, and within a line in the order of its codes, and then in
--- that of the text.
+-- The order in which the faults of a statement of the setup are tried, which is this program's own: line by line, and within a line in the order
+-- of its codes, and then in that of the text.
 use Rattle.std.specs.Prelude.{List, [], ◌++◌}
 use Rattle.aq_base.specs.declared.fault.SqlFault.{SqlFault}
 

@@ -1,4 +1,5 @@
--- What the setup of a script makes: the catalog, or the line of the first statement that is refused, with its fault.
+-- What the setup of a script makes: the catalog, or the line of the first statement that is refused, with its fault (PostgreSQL manual, chapter
+-- "Data Definition", and page CREATE FUNCTION).
 use Rattle.std.specs.Prelude.{ℕ, ◌||◌, List, [], ◌∷◌, ◌++◌, Result, Ok, Err, if◌then◌else◌, is_some}
 use Rattle.aq_base.specs.declared.fault.SqlFault.{SqlFault}
 use Rattle.aq_base.specs.declared.trigger.CreateFunction.{CreateFunction}
