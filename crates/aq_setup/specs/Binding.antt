@@ -1,0 +1,250 @@
+-- What a statement says once its names are numbers, and its faults: all of its names come before its lengths, and these before its kinds.
+-- The first fault is the answer (PostgreSQL source, analyze.c).
+use Rattle.std.specs.Prelude.{ℕ, Bool, false, not, List, [], ◌∷◌, ◌++◌, codes, Option, Some, None, Result, Ok, Err, if◌then◌else◌, map, option_map, slice_get}
+use Rattle.std.specs.List.{list_any, flat_map}
+use Rattle.aq_base.specs.Names.{Text}
+use Rattle.aq_base.specs.declared.fault.SqlFault.{SqlFault}
+use Rattle.aq_base.specs.declared.expr.Expr.{Expr, Expr-F, fold-Expr}
+use Rattle.aq_base.specs.declared.expr.Expr.TheOpen as exprs
+use Rattle.aq_base.specs.declared.data.Given.{Given}
+use Rattle.aq_base.specs.declared.data.Given.TheVariants as givens
+use Rattle.aq_base.specs.declared.data.Source.{Source}
+use Rattle.aq_base.specs.declared.data.Source.TheVariants as sources
+use Rattle.aq_base.specs.declared.data.Insert.{Insert}
+use Rattle.aq_base.specs.declared.data.Assignment.{Assignment}
+use Rattle.aq_base.specs.declared.data.Update.{Update}
+use Rattle.aq_base.specs.declared.data.Delete.{Delete}
+use Rattle.aq_base.specs.declared.data.Columns.{Columns}
+use Rattle.aq_base.specs.declared.data.Columns.TheVariants as shown
+use Rattle.aq_base.specs.declared.data.Select.{Select}
+use Rattle.aq_base.specs.declared.modes.ConstraintMode.{ConstraintMode}
+use Rattle.aq_base.specs.declared.modes.ConstraintMode.TheVariants as modes
+use Rattle.aq_base.specs.declared.modes.Constraints.{Constraints}
+use Rattle.aq_base.specs.declared.modes.Constraints.TheVariants as constrained
+use Rattle.aq_base.specs.declared.modes.SetConstraints.{SetConstraints}
+use Rattle.aq_base.specs.declared.body.BodyStatement.{BodyStatement, BodyStatement-F, fold-BodyStatement}
+use Rattle.aq_base.specs.declared.body.BodyStatement.TheOpen as bodies
+use Rattle.aq_base.specs.declared.body.ElseIf.{ElseIf-F}
+use Rattle.aq_base.specs.declared.statement.Statement.{Statement}
+use Rattle.aq_base.specs.declared.statement.Statement.TheVariants as statements
+use Rattle.aq_setup.specs.BoundTrees.{BoundExpr, Constant, Column, Old, New, Operation, Negate, Multiply, Add, Subtract, Compare, IsNull, IsNotNull, IsDistinct, IsNotDistinct, Not, And, Or, BoundGiven, Given_value, Given_default, BoundFrom, From_table, From_old_table, From_new_table, BoundSource, From_values, From_query, BoundInsert, BoundAssignment, BoundUpdate, BoundDelete, BoundSelect, BoundSet, Bound, Inserts, Updates, Deletes, Selects, Sets, Begins, Starts, Commits, Rolls_back, Saves, Releases, Rolls_back_to, BoundBody, Ends, If, Raises, Returns, Runs_insert, Runs_update, Runs_delete, Sets_constraints}
+use Rattle.aq_setup.specs.Catalogs.{Catalog, table_columns, constraints_named, Column as TableColumn}
+use Rattle.aq_setup.specs.Scopes.{Setting, in_session, Scope, no_row, table_scope, is_text, query_scope, number_of_table, number_of_column}
+use Rattle.aq_setup.specs.Names.{expression_names, insert_names, update_names, delete_names, select_names}
+use Rattle.aq_setup.specs.Lengths.{insert_lengths, update_lengths}
+use Rattle.aq_setup.specs.Kinds.{boolean_kinds, insert_kinds, update_kinds, delete_kinds, select_kinds}
+use Rattle.aq_setup.specs.Faults.{no_constraint, not_deferrable}
+
+-- ---- numbers for names, where each name is there
+
+abbrev pub bound_step : Scope → Expr-F BoundExpr → BoundExpr
+bound_step scope (exprs.Constant value) = Constant value
+bound_step scope (exprs.Column column) = Column (number_of_column scope.cols column)
+bound_step scope (exprs.Qualified table column) = Column (number_of_column scope.cols column)
+bound_step scope (exprs.Old column) = Old (number_of_column scope.changed column)
+bound_step scope (exprs.New column) = New (number_of_column scope.changed column)
+bound_step scope exprs.Operation = Operation
+bound_step scope (exprs.Negate a) = Negate a
+bound_step scope (exprs.Multiply a b) = Multiply a b
+bound_step scope (exprs.Add a b) = Add a b
+bound_step scope (exprs.Subtract a b) = Subtract a b
+bound_step scope (exprs.Compare a sign b) = Compare a sign b
+bound_step scope (exprs.IsNull a) = IsNull a
+bound_step scope (exprs.IsNotNull a) = IsNotNull a
+bound_step scope (exprs.IsDistinct a b) = IsDistinct a b
+bound_step scope (exprs.IsNotDistinct a b) = IsNotDistinct a b
+bound_step scope (exprs.Not a) = Not a
+bound_step scope (exprs.And a b) = And a b
+bound_step scope (exprs.Or a b) = Or a b
+
+abbrev pub bound_expression : Scope → Expr → BoundExpr
+bound_expression scope e = fold-Expr BoundExpr (bound_step scope) e
+
+abbrev pub bound_condition : Scope → Option Expr → Option BoundExpr
+bound_condition scope condition = option_map (bound_expression scope) condition
+
+abbrev pub bound_given : Scope → Given → BoundGiven
+bound_given scope (givens.Value e) = Given_value (bound_expression scope e)
+bound_given scope givens.Default = Given_default
+
+abbrev pub bound_from : Setting → Text → BoundFrom
+bound_from setting name =
+    if is_text setting.old_table name
+    then From_old_table
+    else (if is_text setting.new_table name then From_new_table else From_table (number_of_table setting.catalog name))
+
+abbrev pub bound_source : Setting → Source → BoundSource
+bound_source setting (sources.Values rows) = From_values (map (λ row. map (bound_given (no_row setting.changed)) row) rows)
+bound_source setting (sources.Query found table condition) =
+    From_query (map (bound_expression (query_scope setting table)) found) (bound_from setting table) (bound_condition (query_scope setting table) condition)
+
+abbrev pub bound_insert : Setting → Insert → BoundInsert
+bound_insert setting s =
+    record {
+      table = number_of_table setting.catalog s.table;
+      columns = option_map (λ names. map (number_of_column (table_columns setting.catalog s.table)) names) s.columns;
+      source = bound_source setting s.source;
+    }
+
+abbrev pub bound_assignment : Scope → Assignment → BoundAssignment
+bound_assignment scope a = record { column = number_of_column scope.cols a.column; value = bound_given scope a.value }
+
+abbrev pub bound_update : Setting → Update → BoundUpdate
+bound_update setting s =
+    record {
+      table = number_of_table setting.catalog s.table;
+      assignments = map (bound_assignment (table_scope setting s.table)) s.assignments;
+      condition = bound_condition (table_scope setting s.table) s.condition;
+    }
+
+abbrev pub bound_delete : Setting → Delete → BoundDelete
+bound_delete setting s =
+    record { table = number_of_table setting.catalog s.table; condition = bound_condition (table_scope setting s.table) s.condition }
+
+abbrev pub bound_columns : List TableColumn → Columns → Option (List ℕ)
+bound_columns cols shown.All = None
+bound_columns cols (shown.Named names) = Some (map (number_of_column cols) names)
+
+abbrev pub bound_select : Setting → Select → BoundSelect
+bound_select setting s =
+    record {
+      columns = bound_columns (table_columns setting.catalog s.table) s.columns;
+      table = number_of_table setting.catalog s.table;
+      condition = bound_condition (table_scope setting s.table) s.condition;
+      lock = s.lock;
+    }
+
+abbrev pub bound_constraints : Catalog → Constraints → Option (List (List ℕ))
+bound_constraints cat constrained.All = None
+bound_constraints cat (constrained.Named names) = Some (map (constraints_named cat) names)
+
+abbrev pub bound_set : Catalog → SetConstraints → BoundSet
+bound_set cat s = record { constraints = bound_constraints cat s.constraints; mode = s.mode }
+
+-- a statement of the setup is none of a session
+abbrev pub bound : Catalog → Statement → Bound
+bound cat (statements.Insert s) = Inserts (bound_insert (in_session cat) s)
+bound cat (statements.Update s) = Updates (bound_update (in_session cat) s)
+bound cat (statements.Delete s) = Deletes (bound_delete (in_session cat) s)
+bound cat (statements.Select s) = Selects (bound_select (in_session cat) s)
+bound cat (statements.SetConstraints s) = Sets (bound_set cat s)
+bound cat (statements.Begin isolation) = Begins isolation
+bound cat (statements.StartTransaction isolation) = Starts isolation
+bound cat statements.Commit = Commits
+bound cat statements.Rollback = Rolls_back
+bound cat (statements.Savepoint name) = Saves name
+bound cat (statements.Release name) = Releases name
+bound cat (statements.RollbackTo name) = Rolls_back_to name
+bound cat _ = Commits
+
+-- ---- faults
+
+abbrev pub insert_faults : Setting → Insert → List SqlFault
+insert_faults setting s = insert_names setting s ++ (insert_lengths setting s ++ insert_kinds setting s)
+
+abbrev pub update_faults : Setting → Update → List SqlFault
+update_faults setting s = update_names setting s ++ (update_lengths s ++ update_kinds setting s)
+
+abbrev pub delete_faults : Setting → Delete → List SqlFault
+delete_faults setting s = delete_names setting s ++ delete_kinds setting s
+
+abbrev pub select_faults : Setting → Select → List SqlFault
+select_faults setting s = select_names setting s ++ select_kinds setting s
+
+-- whether a constraint can't be deferred
+abbrev pub is_fixed : Catalog → ℕ → Bool
+is_fixed cat con = elim (slice_get cat.constraints con) [ None ↦ false | Some found ↦ not found.decl.deferrable ]
+
+-- a name that no constraint has, or with DEFERRED one of a constraint that can't be
+abbrev pub set_name_faults : Catalog → ConstraintMode → Text → List ℕ → List SqlFault
+set_name_faults cat mode name [] = no_constraint name ∷ []
+set_name_faults cat modes.Immediate name (con ∷ others) = []
+set_name_faults cat modes.Deferred name (con ∷ others) = if list_any (is_fixed cat) (con ∷ others) then not_deferrable name ∷ [] else []
+
+-- name by name
+abbrev pub set_faults_of : Catalog → ConstraintMode → Constraints → List SqlFault
+set_faults_of cat mode constrained.All = []
+set_faults_of cat mode (constrained.Named names) = flat_map (λ name. set_name_faults cat mode name (constraints_named cat name)) names
+
+abbrev pub set_faults : Catalog → SetConstraints → List SqlFault
+set_faults cat s = set_faults_of cat s.mode s.constraints
+
+abbrev pub statement_faults : Catalog → Statement → List SqlFault
+statement_faults cat (statements.Insert s) = insert_faults (in_session cat) s
+statement_faults cat (statements.Update s) = update_faults (in_session cat) s
+statement_faults cat (statements.Delete s) = delete_faults (in_session cat) s
+statement_faults cat (statements.Select s) = select_faults (in_session cat) s
+statement_faults cat (statements.SetConstraints s) = set_faults cat s
+statement_faults cat _ = []
+
+-- the first fault, or else the value
+abbrev pub unless_faulty : {A : Type 0} → List SqlFault → A → Result A SqlFault
+unless_faulty [] x = Ok x
+unless_faulty (fault ∷ others) x = Err fault
+
+abbrev pub bind : Catalog → Statement → Result Bound SqlFault
+bind cat s = unless_faulty (statement_faults cat s) (bound cat s)
+
+-- ---- bodies. Each statement, and each condition of an IF, has its names before its kinds; statements go in the order of the text.
+
+abbrev pub condition_faults : Text → Scope → Expr → List SqlFault
+condition_faults word scope e = expression_names scope e ++ boolean_kinds word scope e
+
+abbrev pub all_faults : List (List SqlFault) → List SqlFault
+all_faults found = flat_map (λ faults. faults) found
+
+abbrev pub faults_of_option : Option (List (List SqlFault)) → List SqlFault
+faults_of_option None = []
+faults_of_option (Some found) = all_faults found
+
+abbrev pub else_if_faults_step : Setting → ElseIf-F (List SqlFault) (List SqlFault) → List SqlFault
+else_if_faults_step setting branch = condition_faults (codes "IF") (no_row setting.changed) branch.condition ++ all_faults branch.then
+
+abbrev pub body_faults_step : Setting → BodyStatement-F (List SqlFault) (List SqlFault) → List SqlFault
+body_faults_step setting (bodies.If condition first others last) =
+    condition_faults (codes "IF") (no_row setting.changed) condition ++ (all_faults first ++ (all_faults others ++ faults_of_option last))
+body_faults_step setting (bodies.Raise text) = []
+body_faults_step setting (bodies.Return what) = []
+body_faults_step setting (bodies.Insert s) = insert_faults setting s
+body_faults_step setting (bodies.Update s) = update_faults setting s
+body_faults_step setting (bodies.Delete s) = delete_faults setting s
+body_faults_step setting (bodies.SetConstraints s) = []
+
+abbrev pub body_faults : Setting → List BodyStatement → List SqlFault
+body_faults setting body =
+    flat_map (λ s. fold-BodyStatement (List SqlFault) (List SqlFault) (body_faults_step setting) (else_if_faults_step setting) s) body
+
+-- a statement, before what comes behind it
+abbrev pub Before : Type 0
+Before = BoundBody → BoundBody
+
+abbrev pub in_turn : List Before → BoundBody
+in_turn [] = Ends
+in_turn (first ∷ others) = first (in_turn others)
+
+-- a branch, before the branches that are tried where its condition doesn't hold
+abbrev pub else_if_bound_step : Setting → ElseIf-F Before Before → Before
+else_if_bound_step setting branch =
+    λ others. If (bound_expression (no_row setting.changed) branch.condition) (in_turn branch.then) others Ends
+
+abbrev pub last_branch : Option (List Before) → BoundBody
+last_branch None = Ends
+last_branch (Some found) = in_turn found
+
+abbrev pub branches : List Before → BoundBody → BoundBody
+branches [] last = last
+branches (first ∷ others) last = first (branches others last)
+
+abbrev pub body_bound_step : Setting → BodyStatement-F Before Before → Before
+body_bound_step setting (bodies.If condition first others last) =
+    λ behind. If (bound_expression (no_row setting.changed) condition) (in_turn first) (branches others (last_branch last)) behind
+body_bound_step setting (bodies.Raise text) = λ behind. Raises text behind
+body_bound_step setting (bodies.Return what) = λ behind. Returns what behind
+body_bound_step setting (bodies.Insert s) = λ behind. Runs_insert (bound_insert setting s) behind
+body_bound_step setting (bodies.Update s) = λ behind. Runs_update (bound_update setting s) behind
+body_bound_step setting (bodies.Delete s) = λ behind. Runs_delete (bound_delete setting s) behind
+body_bound_step setting (bodies.SetConstraints s) = λ behind. Sets_constraints s behind
+
+abbrev pub bound_body : Setting → List BodyStatement → BoundBody
+bound_body setting body =
+    in_turn (map (λ s. fold-BodyStatement Before Before (body_bound_step setting) (else_if_bound_step setting) s) body)

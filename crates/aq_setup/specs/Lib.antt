@@ -1,0 +1,14 @@
+pub mod Faults
+pub mod Order
+pub mod BoundTrees
+pub mod Catalogs
+pub mod Scopes
+pub mod Names
+pub mod Lengths
+pub mod Kinds
+pub mod Binding
+pub mod Constraints
+pub mod References
+pub mod Tables
+pub mod Triggers
+pub mod Setup
