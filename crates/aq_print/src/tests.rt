@@ -1,88 +1,11 @@
 use super::*;
-use aq_base::{
-    Boxed, Columns, Comparison, Expr, Item, List, NoMemory, Placed, ReplyLine, Row, Script, Select,
-    SessionText, Statement, TextVal, TraceEvent, TraceLine, Value,
-};
+use aq_base::{List, NoMemory, ReplyLine, Row, Statement, TextVal, TraceEvent, TraceLine, Value};
 use aq_xids::SessNo;
 use std::alloc::Global;
 use std::test::Fail;
 
 fn text(alloc: Global, word: &str) -> Result<TextVal, NoMemory> {
     TextVal::new(alloc, word)
-}
-
-fn column(alloc: Global, name: &str) -> Result<Boxed<Expr>, NoMemory> {
-    Boxed::new(alloc, Expr::Column(text(alloc, name)?))
-}
-
-fn number(alloc: Global, n: i64) -> Result<Boxed<Expr>, NoMemory> {
-    Boxed::new(alloc, Expr::Constant(Value::Int(n)))
-}
-
-/// `a + 1 * 2`
-fn sum(alloc: Global) -> Result<Expr, NoMemory> {
-    let product = Expr::Multiply(number(alloc, 1)?, number(alloc, 2)?);
-    Ok(Expr::Add(column(alloc, "a")?, Boxed::new(alloc, product)?))
-}
-
-/// `a + 1 * 2 = 3`
-fn equation(alloc: Global) -> Result<Expr, NoMemory> {
-    Ok(Expr::Compare {
-        left: Boxed::new(alloc, sum(alloc)?)?,
-        comparison: Comparison::Equal,
-        right: number(alloc, 3)?,
-    })
-}
-
-/// `SELECT * FROM t WHERE a + 1 * 2 = 3 AND NOT b`
-fn query(alloc: Global) -> Result<Select, NoMemory> {
-    let negation = Expr::Not(column(alloc, "b")?);
-    let condition = Expr::And(
-        Boxed::new(alloc, equation(alloc)?)?,
-        Boxed::new(alloc, negation)?,
-    );
-    Ok(Select {
-        columns: Columns::All,
-        table: text(alloc, "t")?,
-        condition: Some(condition),
-        lock: None,
-    })
-}
-
-fn one<T: Drop>(alloc: Global, x: T) -> Result<List<T>, NoMemory> {
-    let mut made = List::new(alloc);
-    made.push(x)?;
-    Ok(made)
-}
-
-fn script(alloc: Global) -> Result<Script, NoMemory> {
-    let statement = Placed {
-        line: 4,
-        statement: Statement::Select(query(alloc)?),
-    };
-    let session = SessionText {
-        name: text(alloc, "r")?,
-        statements: one(alloc, statement)?,
-    };
-    let item = Item {
-        name: text(alloc, "r")?,
-        count: 2,
-    };
-    Ok(Script {
-        setup: List::new(alloc),
-        sessions: one(alloc, session)?,
-        schedule: Some(one(alloc, item)?),
-    })
-}
-
-#[test]
-fn a_script_is_printed(rt: HostRuntime) -> Result<(), Fail> {
-    let alloc = rt.alloc();
-    let printed = print_script(alloc, &script(alloc)?)?;
-    let expected =
-        b"\\session r\nSELECT * FROM t WHERE ((a + (1 * 2)) = 3) AND (NOT b);\n\\schedule r*2\n";
-    assert!(rt; printed.as_slice() == expected.as_slice());
-    Ok(())
 }
 
 #[test]
@@ -92,6 +15,12 @@ fn a_statement_is_printed(rt: HostRuntime) -> Result<(), Fail> {
     let printed = print_statement(alloc, &savepoint)?;
     assert!(rt; printed.as_slice() == b"SAVEPOINT \"Select\";\n".as_slice());
     Ok(())
+}
+
+fn one<T: Drop>(alloc: Global, x: T) -> Result<List<T>, NoMemory> {
+    let mut made = List::new(alloc);
+    made.push(x)?;
+    Ok(made)
 }
 
 /// `(7, 'it''s')`
