@@ -1,17 +1,13 @@
 use super::*;
-use aq_base::{Boxed, ColNo, Comparison, Kind, List, NoMemory, Op, Same, TextVal, Value};
+use aq_base::{Boxed, ColNo, Comparison, Kind, List, NoMemory, Op, Row, Same, TextVal, Value};
 use aq_bound::{BoundExpr, copy_bound};
 use std::alloc::Global;
 use std::test::*;
 
-type Operand = Result<Boxed<BoundExpr>, NoMemory>;
+type Built = Result<BoundExpr, NoMemory>;
 
-fn value(alloc: Global, value: Value) -> Operand {
+fn boxed(alloc: Global, value: Value) -> Result<Boxed<BoundExpr>, NoMemory> {
     Boxed::new(alloc, BoundExpr::Constant(value))
-}
-
-fn number(alloc: Global, n: i64) -> Operand {
-    value(alloc, Value::Int(n))
 }
 
 fn text(alloc: Global, letters: &str) -> Result<Value, NoMemory> {
@@ -19,24 +15,53 @@ fn text(alloc: Global, letters: &str) -> Result<Value, NoMemory> {
 }
 
 /// A truth value, or null.
-fn known(alloc: Global, b: Option<bool>) -> Operand {
+fn known(b: Option<bool>) -> Value {
     match b {
-        None => value(alloc, Value::Null),
-        Some(b) => value(alloc, Value::Bool(b)),
+        None => Value::Null,
+        Some(b) => Value::Bool(b),
     }
 }
 
-/// The greatest number of 64 bits, and one.
-fn too_much(alloc: Global) -> Result<BoundExpr, NoMemory> {
-    Ok(BoundExpr::Add(number(alloc, 1)?, number(alloc, i64::MAX)?))
+fn conjunction(alloc: Global, a: Value, b: Value) -> Built {
+    Ok(BoundExpr::And(boxed(alloc, a)?, boxed(alloc, b)?))
 }
 
-const fn nowhere() -> Env<'static> {
+fn disjunction(alloc: Global, a: Value, b: Value) -> Built {
+    Ok(BoundExpr::Or(boxed(alloc, a)?, boxed(alloc, b)?))
+}
+
+fn compared(alloc: Global, left: Value, comparison: Comparison, right: Value) -> Built {
+    Ok(BoundExpr::Compare {
+        left: boxed(alloc, left)?,
+        comparison,
+        right: boxed(alloc, right)?,
+    })
+}
+
+/// The greatest number of 64 bits, and one.
+fn too_much(alloc: Global) -> Built {
+    Ok(BoundExpr::Add(
+        boxed(alloc, Value::Int(i64::MAX))?,
+        boxed(alloc, Value::Int(1))?,
+    ))
+}
+
+fn nowhere() -> Env<'static> {
     Env {
         row: None,
         old: None,
         new: None,
         op: None,
+    }
+}
+
+/// An environment with a new row alone, and an UPDATE.
+fn updated(row: &Row) -> Env<'_> {
+    Env {
+        row: None,
+        old: None,
+        new: Some(row),
+        op: Some(Op::Update),
     }
 }
 
@@ -70,39 +95,33 @@ fn logic_with_nulls(rt: HostRuntime) -> Result<(), Fail> {
         (Some(false), Some(true), Some(false), Some(true)),
         (Some(true), None, None, Some(true)),
         (Some(false), None, Some(false), None),
-        (None, Some(true), None, Some(true)),
-        (None, Some(false), Some(false), None),
         (None, None, None, None),
     ] {
-        let conjunction = BoundExpr::And(known(alloc, a)?, known(alloc, b)?);
-        assert!(rt; comes_to(alloc, &conjunction, both));
-        let disjunction = BoundExpr::Or(known(alloc, a)?, known(alloc, b)?);
-        assert!(rt; comes_to(alloc, &disjunction, either));
+        assert!(rt; comes_to(alloc, &conjunction(alloc, known(a), known(b))?, both));
+        assert!(rt; comes_to(alloc, &disjunction(alloc, known(b), known(a))?, either));
     }
-    assert!(rt; comes_to(alloc, &BoundExpr::Not(known(alloc, None)?), None));
     Ok(())
 }
 
 #[test]
-fn comparisons_with_nulls(rt: HostRuntime) -> Result<(), Fail> {
+fn comparisons(rt: HostRuntime) -> Result<(), Fail> {
     let alloc = rt.alloc();
-    let equal = BoundExpr::Compare {
-        left: known(alloc, None)?,
-        comparison: Comparison::Equal,
-        right: number(alloc, 1)?,
-    };
-    let is_null = BoundExpr::IsNull(Boxed::new(alloc, copy_bound(alloc, &equal)?)?);
-    assert!(rt; comes_to(alloc, &equal, None));
+    let unknown = compared(alloc, Value::Null, Comparison::Equal, Value::Int(1))?;
+    assert!(rt; comes_to(alloc, &unknown, None));
+    let is_null = BoundExpr::IsNull(Boxed::new(alloc, copy_bound(alloc, &unknown)?)?);
     assert!(rt; comes_to(alloc, &is_null, Some(true)));
-    let differs = BoundExpr::IsDistinct(known(alloc, None)?, number(alloc, 1)?);
-    assert!(rt; comes_to(alloc, &differs, Some(true)));
-    let agrees = BoundExpr::IsNotDistinct(known(alloc, None)?, known(alloc, None)?);
-    assert!(rt; comes_to(alloc, &agrees, Some(true)));
-    let before = BoundExpr::Compare {
-        left: value(alloc, text(alloc, "ab")?)?,
-        comparison: Comparison::Less,
-        right: value(alloc, text(alloc, "b")?)?,
-    };
+    Ok(())
+}
+
+#[test]
+fn texts_in_the_order_of_bytes(rt: HostRuntime) -> Result<(), Fail> {
+    let alloc = rt.alloc();
+    let before = compared(
+        alloc,
+        text(alloc, "ab")?,
+        Comparison::Less,
+        text(alloc, "b")?,
+    )?;
     assert!(rt; comes_to(alloc, &before, Some(true)));
     Ok(())
 }
@@ -112,47 +131,28 @@ fn columns(rt: HostRuntime) -> Result<(), Fail> {
     let alloc = rt.alloc();
     let mut row = List::new(alloc);
     row.push(Value::Int(7))?;
-    let env = Env {
-        new: Some(&row),
-        op: Some(Op::Update),
-        ..nowhere()
-    };
-    let more = BoundExpr::Add(
-        Boxed::new(alloc, BoundExpr::New(ColNo::new(0)))?,
-        number(alloc, 1)?,
-    );
-    assert!(rt; gives(alloc, &more, &env, &Value::Int(8)));
-    for absent in [
-        BoundExpr::New(ColNo::new(1)),
-        BoundExpr::Old(ColNo::new(0)),
-        BoundExpr::Column(ColNo::new(0)),
-    ] {
-        assert!(rt; gives(alloc, &absent, &env, &Value::Null));
-    }
+    let env = updated(&row);
+    assert!(rt; gives(alloc, &BoundExpr::New(ColNo::new(0)), &env, &Value::Int(7)));
+    assert!(rt; gives(alloc, &BoundExpr::New(ColNo::new(1)), &env, &Value::Null));
+    assert!(rt; gives(alloc, &BoundExpr::Old(ColNo::new(0)), &env, &Value::Null));
     assert!(rt; gives(alloc, &BoundExpr::Operation, &env, &text(alloc, "UPDATE")?));
-    assert!(rt; gives(alloc, &BoundExpr::Operation, &nowhere(), &Value::Null));
     Ok(())
 }
 
 #[test]
 fn numbers_out_of_range(rt: HostRuntime) -> Result<(), Fail> {
     let alloc = rt.alloc();
-    let sum = too_much(alloc)?;
-    assert!(rt; is_out_of_range(eval(alloc, &sum, &nowhere()), Kind::Bigint));
-    let whole = BoundExpr::And(
-        known(alloc, Some(false))?,
-        Boxed::new(
-            alloc,
-            BoundExpr::Compare {
-                left: Boxed::new(alloc, sum)?,
-                comparison: Comparison::Equal,
-                right: number(alloc, 0)?,
-            },
-        )?,
-    );
+    assert!(rt; is_out_of_range(eval(alloc, &too_much(alloc)?, &nowhere()), Kind::Bigint));
+    let left = boxed(alloc, Value::Bool(false))?;
+    let is_null = BoundExpr::IsNull(Boxed::new(alloc, too_much(alloc)?)?);
+    let whole = BoundExpr::And(left, Boxed::new(alloc, is_null)?);
     assert!(rt; is_out_of_range(eval(alloc, &whole, &nowhere()), Kind::Bigint));
+    Ok(())
+}
+
+#[test]
+fn what_a_column_keeps(rt: HostRuntime) {
     assert!(rt; is_out_of_range(store(Value::Int(2147483648), Kind::Integer), Kind::Integer));
     assert!(rt; store(Value::Int(2147483647), Kind::Integer).is_ok());
     assert!(rt; store(Value::Int(2147483648), Kind::Bigint).is_ok());
-    Ok(())
 }
