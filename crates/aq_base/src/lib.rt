@@ -33,7 +33,7 @@ pub use expr::{Comparison, Expr};
 pub use fault::{Code, SqlFault};
 pub use list::List;
 pub use modes::{ConstraintMode, Constraints, SetConstraints};
-pub use numbers::{ColNo, FkNo, RowNo, TabNo};
+pub use numbers::{ColNo, ConNo, FkNo, KeyNo, RowNo, TabNo, TrigNo};
 pub use reply::ReplyLine;
 pub use same::Same;
 pub use script::{Bound, Item, Kind, Placed, Script, SessionText};

@@ -98,6 +98,102 @@ impl FkNo {
     }
 }
 
+/// A unique key's number in creation order, from 0.
+#[derive(Clone, Copy, Debug, PartialEq, Eq, PartialOrd, Ord, Hash)]
+pub struct KeyNo {
+    number: u16,
+}
+
+impl Model for KeyNo {
+    ghost use Rattle.std.specs.Prelude.{ℕ};
+
+    ghost Value = { ℕ };
+
+    ghost view = { λ n. n.number };
+
+    ghost inverse = { λ n. record { number = n } };
+}
+
+impl KeyNo {
+    /// The key with this number.
+    pub fn new(number: u16) -> KeyNo
+        ensures { result ≡ number }
+    {
+        KeyNo { number }
+    }
+
+    /// The number.
+    pub fn get(self) -> u16
+        ensures { result ≡ self }
+    {
+        self.number
+    }
+}
+
+/// A constraint's number in creation order, from 0.
+#[derive(Clone, Copy, Debug, PartialEq, Eq, PartialOrd, Ord, Hash)]
+pub struct ConNo {
+    number: u16,
+}
+
+impl Model for ConNo {
+    ghost use Rattle.std.specs.Prelude.{ℕ};
+
+    ghost Value = { ℕ };
+
+    ghost view = { λ n. n.number };
+
+    ghost inverse = { λ n. record { number = n } };
+}
+
+impl ConNo {
+    /// The constraint with this number.
+    pub fn new(number: u16) -> ConNo
+        ensures { result ≡ number }
+    {
+        ConNo { number }
+    }
+
+    /// The number.
+    pub fn get(self) -> u16
+        ensures { result ≡ self }
+    {
+        self.number
+    }
+}
+
+/// A trigger's number in creation order, from 0.
+#[derive(Clone, Copy, Debug, PartialEq, Eq, PartialOrd, Ord, Hash)]
+pub struct TrigNo {
+    number: u16,
+}
+
+impl Model for TrigNo {
+    ghost use Rattle.std.specs.Prelude.{ℕ};
+
+    ghost Value = { ℕ };
+
+    ghost view = { λ n. n.number };
+
+    ghost inverse = { λ n. record { number = n } };
+}
+
+impl TrigNo {
+    /// The trigger with this number.
+    pub fn new(number: u16) -> TrigNo
+        ensures { result ≡ number }
+    {
+        TrigNo { number }
+    }
+
+    /// The number.
+    pub fn get(self) -> u16
+        ensures { result ≡ self }
+    {
+        self.number
+    }
+}
+
 /// A row's number: drawn from one counter at each inserted row, from 1, and never used again.
 #[derive(Clone, Copy, Debug, PartialEq, Eq, PartialOrd, Ord, Hash)]
 pub struct RowNo {
