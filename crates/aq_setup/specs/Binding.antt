@@ -27,8 +27,31 @@ use Rattle.aq_base.specs.declared.body.BodyStatement.TheOpen as bodies
 use Rattle.aq_base.specs.declared.body.ElseIf.{ElseIf-F}
 use Rattle.aq_base.specs.declared.statement.Statement.{Statement}
 use Rattle.aq_base.specs.declared.statement.Statement.TheVariants as statements
-use Rattle.aq_setup.specs.BoundTrees.{BoundExpr, Constant, Column, Old, New, Operation, Negate, Multiply, Add, Subtract, Compare, IsNull, IsNotNull, IsDistinct, IsNotDistinct, Not, And, Or, BoundGiven, Given_value, Given_default, BoundFrom, From_table, From_old_table, From_new_table, BoundSource, From_values, From_query, BoundInsert, BoundAssignment, BoundUpdate, BoundDelete, BoundSelect, BoundSet, Bound, Inserts, Updates, Deletes, Selects, Sets, Begins, Starts, Commits, Rolls_back, Saves, Releases, Rolls_back_to, BoundBody, Ends, If, Raises, Returns, Runs_insert, Runs_update, Runs_delete, Sets_constraints}
-use Rattle.aq_setup.specs.Catalogs.{Catalog, table_columns, constraints_named, Column as TableColumn}
+use Rattle.aq_bound.specs.declared.catalog.Column.{Column as TableColumn}
+use Rattle.aq_bound.specs.declared.expr.BoundExpr.{BoundExpr}
+use Rattle.aq_bound.specs.declared.expr.BoundExpr.TheVariants.{Constant, Column, Old, New, Operation, Negate, Multiply, Add, Subtract, Compare, IsNull, IsNotNull, IsDistinct, IsNotDistinct, Not, And, Or}
+use Rattle.aq_bound.specs.declared.data.BoundGiven.{BoundGiven}
+use Rattle.aq_bound.specs.declared.data.BoundGiven.TheVariants as bound_givens
+use Rattle.aq_bound.specs.declared.data.BoundFrom.{BoundFrom}
+use Rattle.aq_bound.specs.declared.data.BoundFrom.TheVariants as rows_of
+use Rattle.aq_bound.specs.declared.data.BoundSource.{BoundSource}
+use Rattle.aq_bound.specs.declared.data.BoundSource.TheVariants as bound_sources
+use Rattle.aq_bound.specs.declared.data.BoundInsert.{BoundInsert}
+use Rattle.aq_bound.specs.declared.data.BoundAssignment.{BoundAssignment}
+use Rattle.aq_bound.specs.declared.data.BoundUpdate.{BoundUpdate}
+use Rattle.aq_bound.specs.declared.data.BoundDelete.{BoundDelete}
+use Rattle.aq_bound.specs.declared.data.BoundColumns.{BoundColumns}
+use Rattle.aq_bound.specs.declared.data.BoundColumns.TheVariants as bound_shown
+use Rattle.aq_bound.specs.declared.data.BoundSelect.{BoundSelect}
+use Rattle.aq_bound.specs.declared.statement.BoundConstraints.{BoundConstraints}
+use Rattle.aq_bound.specs.declared.statement.BoundConstraints.TheVariants as bound_constrained
+use Rattle.aq_bound.specs.declared.statement.BoundSet.{BoundSet}
+use Rattle.aq_bound.specs.declared.statement.Bound.{Bound}
+use Rattle.aq_bound.specs.declared.statement.Bound.TheVariants as bound_statements
+use Rattle.aq_bound.specs.declared.body.BoundBodyStatement.{BoundBodyStatement}
+use Rattle.aq_bound.specs.declared.body.BoundBodyStatement.TheVariants as bound_bodies
+use Rattle.aq_bound.specs.declared.body.BoundElseIf.{BoundElseIf}
+use Rattle.aq_setup.specs.Catalogs.{Catalog, table_columns, constraints_named}
 use Rattle.aq_setup.specs.Scopes.{Setting, in_session, Scope, no_row, table_scope, is_text, query_scope, number_of_table, number_of_column}
 use Rattle.aq_setup.specs.Names.{expression_names, insert_names, update_names, delete_names, select_names}
 use Rattle.aq_setup.specs.Lengths.{insert_lengths, update_lengths}
@@ -64,19 +87,19 @@ abbrev pub bound_condition : Scope → Option Expr → Option BoundExpr
 bound_condition scope condition = option_map (bound_expression scope) condition
 
 abbrev pub bound_given : Scope → Given → BoundGiven
-bound_given scope (givens.Value e) = Given_value (bound_expression scope e)
-bound_given scope givens.Default = Given_default
+bound_given scope (givens.Value e) = bound_givens.Value (bound_expression scope e)
+bound_given scope givens.Default = bound_givens.Default
 
 abbrev pub bound_from : Setting → Text → BoundFrom
 bound_from setting name =
     if is_text setting.old_table name
-    then From_old_table
-    else (if is_text setting.new_table name then From_new_table else From_table (number_of_table setting.catalog name))
+    then rows_of.OldTable
+    else (if is_text setting.new_table name then rows_of.NewTable else rows_of.Table (number_of_table setting.catalog name))
 
 abbrev pub bound_source : Setting → Source → BoundSource
-bound_source setting (sources.Values rows) = From_values (map (λ row. map (bound_given (no_row setting.changed)) row) rows)
+bound_source setting (sources.Values rows) = bound_sources.Values (map (λ row. map (bound_given (no_row setting.changed)) row) rows)
 bound_source setting (sources.Query found table condition) =
-    From_query (map (bound_expression (query_scope setting table)) found) (bound_from setting table) (bound_condition (query_scope setting table) condition)
+    bound_sources.Query (map (bound_expression (query_scope setting table)) found) (bound_from setting table) (bound_condition (query_scope setting table) condition)
 
 abbrev pub bound_insert : Setting → Insert → BoundInsert
 bound_insert setting s =
@@ -101,9 +124,9 @@ abbrev pub bound_delete : Setting → Delete → BoundDelete
 bound_delete setting s =
     record { table = number_of_table setting.catalog s.table; condition = bound_condition (table_scope setting s.table) s.condition }
 
-abbrev pub bound_columns : List TableColumn → Columns → Option (List ℕ)
-bound_columns cols shown.All = None
-bound_columns cols (shown.Named names) = Some (map (number_of_column cols) names)
+abbrev pub bound_columns : List TableColumn → Columns → BoundColumns
+bound_columns cols shown.All = bound_shown.All
+bound_columns cols (shown.Named names) = bound_shown.Named (map (number_of_column cols) names)
 
 abbrev pub bound_select : Setting → Select → BoundSelect
 bound_select setting s =
@@ -114,28 +137,28 @@ bound_select setting s =
       lock = s.lock;
     }
 
-abbrev pub bound_constraints : Catalog → Constraints → Option (List (List ℕ))
-bound_constraints cat constrained.All = None
-bound_constraints cat (constrained.Named names) = Some (map (constraints_named cat) names)
+abbrev pub bound_constraints : Catalog → Constraints → BoundConstraints
+bound_constraints cat constrained.All = bound_constrained.All
+bound_constraints cat (constrained.Named names) = bound_constrained.Named (map (constraints_named cat) names)
 
 abbrev pub bound_set : Catalog → SetConstraints → BoundSet
 bound_set cat s = record { constraints = bound_constraints cat s.constraints; mode = s.mode }
 
 -- a statement of the setup is none of a session
 abbrev pub bound : Catalog → Statement → Bound
-bound cat (statements.Insert s) = Inserts (bound_insert (in_session cat) s)
-bound cat (statements.Update s) = Updates (bound_update (in_session cat) s)
-bound cat (statements.Delete s) = Deletes (bound_delete (in_session cat) s)
-bound cat (statements.Select s) = Selects (bound_select (in_session cat) s)
-bound cat (statements.SetConstraints s) = Sets (bound_set cat s)
-bound cat (statements.Begin isolation) = Begins isolation
-bound cat (statements.StartTransaction isolation) = Starts isolation
-bound cat statements.Commit = Commits
-bound cat statements.Rollback = Rolls_back
-bound cat (statements.Savepoint name) = Saves name
-bound cat (statements.Release name) = Releases name
-bound cat (statements.RollbackTo name) = Rolls_back_to name
-bound cat _ = Commits
+bound cat (statements.Insert s) = bound_statements.Insert (bound_insert (in_session cat) s)
+bound cat (statements.Update s) = bound_statements.Update (bound_update (in_session cat) s)
+bound cat (statements.Delete s) = bound_statements.Delete (bound_delete (in_session cat) s)
+bound cat (statements.Select s) = bound_statements.Select (bound_select (in_session cat) s)
+bound cat (statements.SetConstraints s) = bound_statements.SetConstraints (bound_set cat s)
+bound cat (statements.Begin isolation) = bound_statements.Begin isolation
+bound cat (statements.StartTransaction isolation) = bound_statements.StartTransaction isolation
+bound cat statements.Commit = bound_statements.Commit
+bound cat statements.Rollback = bound_statements.Rollback
+bound cat (statements.Savepoint name) = bound_statements.Savepoint name
+bound cat (statements.Release name) = bound_statements.Release name
+bound cat (statements.RollbackTo name) = bound_statements.RollbackTo name
+bound cat _ = bound_statements.Commit
 
 -- ---- faults
 
@@ -214,37 +237,24 @@ abbrev pub body_faults : Setting → List BodyStatement → List SqlFault
 body_faults setting body =
     flat_map (λ s. fold-BodyStatement (List SqlFault) (List SqlFault) (body_faults_step setting) (else_if_faults_step setting) s) body
 
--- a statement, before what comes behind it
-abbrev pub Before : Type 0
-Before = BoundBody → BoundBody
-
-abbrev pub in_turn : List Before → BoundBody
-in_turn [] = Ends
-in_turn (first ∷ others) = first (in_turn others)
-
--- a branch, before the branches that are tried where its condition doesn't hold
-abbrev pub else_if_bound_step : Setting → ElseIf-F Before Before → Before
+-- a statement is bound as itself; the names of SET CONSTRAINTS are looked up when it runs
+abbrev pub else_if_bound_step : Setting → ElseIf-F BoundBodyStatement BoundElseIf → BoundElseIf
 else_if_bound_step setting branch =
-    λ others. If (bound_expression (no_row setting.changed) branch.condition) (in_turn branch.then) others Ends
+    record { condition = bound_expression (no_row setting.changed) branch.condition; then = branch.then }
 
-abbrev pub last_branch : Option (List Before) → BoundBody
-last_branch None = Ends
-last_branch (Some found) = in_turn found
-
-abbrev pub branches : List Before → BoundBody → BoundBody
-branches [] last = last
-branches (first ∷ others) last = first (branches others last)
-
-abbrev pub body_bound_step : Setting → BodyStatement-F Before Before → Before
+abbrev pub body_bound_step : Setting → BodyStatement-F BoundBodyStatement BoundElseIf → BoundBodyStatement
 body_bound_step setting (bodies.If condition first others last) =
-    λ behind. If (bound_expression (no_row setting.changed) condition) (in_turn first) (branches others (last_branch last)) behind
-body_bound_step setting (bodies.Raise text) = λ behind. Raises text behind
-body_bound_step setting (bodies.Return what) = λ behind. Returns what behind
-body_bound_step setting (bodies.Insert s) = λ behind. Runs_insert (bound_insert setting s) behind
-body_bound_step setting (bodies.Update s) = λ behind. Runs_update (bound_update setting s) behind
-body_bound_step setting (bodies.Delete s) = λ behind. Runs_delete (bound_delete setting s) behind
-body_bound_step setting (bodies.SetConstraints s) = λ behind. Sets_constraints s behind
+    bound_bodies.If (bound_expression (no_row setting.changed) condition) first others last
+body_bound_step setting (bodies.Raise text) = bound_bodies.Raise text
+body_bound_step setting (bodies.Return what) = bound_bodies.Return what
+body_bound_step setting (bodies.Insert s) = bound_bodies.Insert (bound_insert setting s)
+body_bound_step setting (bodies.Update s) = bound_bodies.Update (bound_update setting s)
+body_bound_step setting (bodies.Delete s) = bound_bodies.Delete (bound_delete setting s)
+body_bound_step setting (bodies.SetConstraints s) = bound_bodies.SetConstraints s
 
-abbrev pub bound_body : Setting → List BodyStatement → BoundBody
-bound_body setting body =
-    in_turn (map (λ s. fold-BodyStatement Before Before (body_bound_step setting) (else_if_bound_step setting) s) body)
+abbrev pub bound_body_statement : Setting → BodyStatement → BoundBodyStatement
+bound_body_statement setting s =
+    fold-BodyStatement BoundBodyStatement BoundElseIf (body_bound_step setting) (else_if_bound_step setting) s
+
+abbrev pub bound_body : Setting → List BodyStatement → List BoundBodyStatement
+bound_body setting body = map (bound_body_statement setting) body

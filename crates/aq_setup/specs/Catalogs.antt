@@ -5,75 +5,17 @@ use Rattle.std.specs.List.{list_any, enumerate_from, flat_map}
 use Rattle.std.specs.Ordering.{nat_cmp, is_lt}
 use Rattle.std.specs.Cmp.Lexicographic.{slice_cmp}
 use Rattle.aq_base.specs.Names.{Text, same_text}
-use Rattle.aq_base.specs.declared.value.Value.{Value}
 use Rattle.aq_base.specs.declared.script.Kind.{Kind}
-use Rattle.aq_base.specs.declared.catalog.Decl.{Decl}
 use Rattle.aq_base.specs.declared.catalog.Op.{Op}
 use Rattle.aq_base.specs.declared.catalog.Op.TheVariants as ops
-use Rattle.aq_base.specs.declared.constraint.Action.{Action}
-use Rattle.aq_base.specs.declared.trigger.Each.{Each}
-use Rattle.aq_base.specs.declared.body.BodyStatement.{BodyStatement}
-use Rattle.aq_setup.specs.BoundTrees.{BoundExpr, BoundBody}
-
-pub record Column : Type 0 where
-  pub name : Text
-  pub kind : Kind
-  pub default : Value
-
-pub record Table : Type 0 where
-  pub name : Text
-  pub cols : List Column
-  -- the columns that hold no null, in order
-  pub not_null : List ℕ
-
-pub record UniqueKey : Type 0 where
-  pub name : Text
-  pub table : ℕ
-  pub cols : List ℕ
-
-pub record ForeignKey : Type 0 where
-  pub name : Text
-  pub child : ℕ
-  pub child_cols : List ℕ
-  pub parent : ℕ
-  pub parent_cols : List ℕ
-  pub full : Bool
-  pub on_delete : Action
-  pub on_update : Action
-  pub con : ℕ
-
--- a constraint of a table as SET CONSTRAINTS knows it: a key, a foreign key or a constraint trigger
-pub record Constraint : Type 0 where
-  pub name : Text
-  pub table : ℕ
-  pub decl : Decl
-
--- its statements are bound for each trigger that names it
-pub record Function : Type 0 where
-  pub name : Text
-  pub body : List BodyStatement
-
-pub data Does : Type 0 where
-  -- looks for the parent of the child row
-  Check : (fk : ℕ) → Does
-  -- does what the foreign key says for the children of the parent row
-  Parent : (fk : ℕ) → Does
-  Body : BoundBody → Does
-  Native : Text → Does
-
-pub record Trigger : Type 0 where
-  pub name : Text
-  pub table : ℕ
-  pub ops : List Op
-  -- the columns of UPDATE OF; empty where there is no list
-  pub cols : List ℕ
-  pub level : Each
-  pub condition : Option BoundExpr
-  -- the constraint whose mode its events have
-  pub con : Option ℕ
-  pub does : Does
-  pub old_table : Option Text
-  pub new_table : Option Text
+use Rattle.aq_bound.specs.declared.catalog.Column.{Column}
+use Rattle.aq_bound.specs.declared.catalog.Table.{Table}
+use Rattle.aq_bound.specs.declared.catalog.UniqueKey.{UniqueKey}
+use Rattle.aq_bound.specs.declared.catalog.ForeignKey.{ForeignKey}
+use Rattle.aq_bound.specs.declared.catalog.Constraint.{Constraint}
+use Rattle.aq_bound.specs.declared.catalog.Function.{Function}
+use Rattle.aq_bound.specs.declared.catalog.Trigger.{Trigger}
+use Rattle.aq_bound.specs.declared.catalog.NativeName.{NativeName}
 
 -- each list in creation order: a number is a place in it
 pub record Catalog : Type 0 where
@@ -85,11 +27,6 @@ pub record Catalog : Type 0 where
   pub constraints : List Constraint
   pub functions : List Function
   pub triggers : List Trigger
-
--- a rule of the program that a trigger may name, and the number of columns that it wants
-pub record NativeName : Type 0 where
-  pub name : Text
-  pub arity : ℕ
 
 abbrev pub no_tables : Catalog
 no_tables = record { tables = []; keys = []; primaries = []; fks = []; constraints = []; functions = []; triggers = [] }
@@ -166,16 +103,17 @@ fires_on table op trigger = trigger.table == table && list_any (same_op op) trig
 abbrev pub stands_before : Text → Text → Bool
 stands_before a b = is_lt (slice_cmp nat_cmp a b)
 
--- a numbered trigger among those that are in order
+-- a numbered trigger among those that are in order, behind those of its name
 abbrev pub in_its_place : ℕ × Trigger → List (ℕ × Trigger) → List (ℕ × Trigger)
 in_its_place entry [] = entry ∷ []
 in_its_place entry (next ∷ others) =
     if stands_before entry.1.name next.1.name then entry ∷ next ∷ others else next ∷ in_its_place entry others
 
-abbrev pub in_name_order : List (ℕ × Trigger) → List (ℕ × Trigger)
-in_name_order [] = []
-in_name_order (entry ∷ others) = in_its_place entry (in_name_order others)
+-- those that are in order, with others, one after the other
+abbrev pub in_name_order : List (ℕ × Trigger) → List (ℕ × Trigger) → List (ℕ × Trigger)
+in_name_order sorted [] = sorted
+in_name_order sorted (entry ∷ others) = in_name_order (in_its_place entry sorted) others
 
 abbrev pub triggers_of : Catalog → ℕ → Op → List ℕ
 triggers_of cat table op =
-    map (λ entry. entry.0) (in_name_order (filter (λ entry. fires_on table op entry.1) (enumerate_from 0 cat.triggers)))
+    map (λ entry. entry.0) (in_name_order [] (filter (λ entry. fires_on table op entry.1) (enumerate_from 0 cat.triggers)))

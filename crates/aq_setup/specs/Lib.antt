@@ -1,6 +1,5 @@
 pub mod Faults
 pub mod Order
-pub mod BoundTrees
 pub mod Catalogs
 pub mod Scopes
 pub mod Names
