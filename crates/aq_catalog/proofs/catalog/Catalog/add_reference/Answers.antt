@@ -1,0 +1,14 @@
+use Rattle.std.proofs.Common.{rules, ◌≡◌, [], ◌∷◌}
+use Rattle.aq_bound.specs.declared.catalog.Constraint.{Constraint}
+use Rattle.aq_catalog.proofs.MadeTriggers.{on_ok}
+use Rattle.aq_catalog.proofs.AddedReferences.{reference_as_defined}
+use Rattle.aq_catalog.proofs.catalog.Catalog.add_reference.Goals as goal
+
+pub returns-clause-ok : goal.returns-clause-ok
+returns-clause-ok c =
+    let named : c.in_ok-constraint.constraint ≡ record { name = c.args.f.now.name; table = c.args.child; decl = c.args.f.now.reference.timing } = Prim.search rules in
+    let own = c.in_ok-made.made in
+    on_ok c.put_reference.result _ _
+    (reference_as_defined c.args.child c.args.f.now c.args.self.now c.put_reference.new.self c.in_ok-fk.fk c.in_ok-constraint.constraint
+    (own.on_delete ∷ own.on_update ∷ own.on_child ∷ []) c.in_ok-fk.ensures named c.in_ok-made.ensures)
+    c.put_reference.ensures.ok

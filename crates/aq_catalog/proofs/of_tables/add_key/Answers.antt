@@ -1,0 +1,7 @@
+use Rattle.std.proofs.Common.{arith}
+use Rattle.aq_catalog.specs.Listed.{with_key_listed}
+use Rattle.aq_catalog.proofs.Rows.{listed_at-added}
+use Rattle.aq_catalog.proofs.of_tables.add_key.Goals as goal
+
+pub returns-clause-ok : goal.returns-clause-ok
+returns-clause-ok c = listed_at-added c.args.rows.now.items c.reach.new.rows.items c.args.table (with_key_listed c.args.key) c.index_mut-row.result.now c.push_key.new.self c.in_ok-reach.ensures.same (omega (arith, c.reach.new.rows.ok.0, c.in_ok-reach.ensures.ok)) c.index_mut-row.ensures.value c.in_ok-push_key.ensures.ok

@@ -1,0 +1,16 @@
+-- The places of names in a list, found by the name.
+use Rattle.std.specs.Prelude.{ℕ, ◌≡◌, ◌-◌, List, [], length, take, unwrap_or}
+use Rattle.std.specs.Map.{lookup}
+use Rattle.aq_base.specs.Names.{Text, same_text}
+use Rattle.aq_setup.specs.Catalogs.{places}
+
+abbrev pub places_under : List (Text × List ℕ) → Text → List ℕ
+places_under entries name = unwrap_or (lookup (same_text name) entries) []
+
+-- the list without its last element
+abbrev pub front : List ℕ → List ℕ
+front xs = take (length xs - 1) xs
+
+-- each name has its places
+abbrev pub IsIndexed : {X : Type 0} → (X → Text) → List X → List (Text × List ℕ) → Type 0
+IsIndexed name_of xs entries = (name : Text) → places_under entries name ≡ places (λ x. same_text (name_of x) name) xs

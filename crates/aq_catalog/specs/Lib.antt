@@ -1,0 +1,16 @@
+pub mod Answers
+pub mod Indexed
+pub mod Listed
+pub mod Marks
+pub mod Pieces
+pub mod Repeating
+pub mod Targets
+pub mod BodyFaults
+pub mod Bodies
+pub mod Transitions
+pub mod TriggerLines
+pub mod Pairs
+pub mod References
+pub mod Steps
+pub mod Stages
+pub mod Built

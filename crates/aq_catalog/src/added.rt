@@ -1,0 +1,424 @@
+//! The faults of the constraints that a CREATE TABLE or an ALTER TABLE adds (PostgreSQL manual, pages CREATE TABLE and ALTER TABLE).
+#![tactic(auto, using(crate::proofs::Telling::first_stays, crate::proofs::Telling::memory_ran_out, crate::proofs::Telling::fault_is_told, crate::proofs::Loops::fault_at, crate::proofs::Loops::mapped_fault_at, crate::proofs::Loops::first_mapped, crate::proofs::Repeats::none_again, crate::proofs::Repeats::first_again))]
+
+ghost use Rattle.std.specs.Prelude.{◌≡◌, ◌+◌, [], ◌∷◌, ◌++◌, if◌then◌else◌, codes, filter, map, length, nat_le, not, unwrap_or, IfOk, OnOk};
+ghost use Rattle.std.specs.List.{flat_map};
+ghost use Rattle.aq_base.specs.Names.{is_short as short};
+ghost use Rattle.aq_setup.specs.Names.{table_faults as absent, unknown};
+ghost use Rattle.aq_setup.specs.References as references;
+ghost use Rattle.aq_setup.specs.Scopes.{repeats_behind};
+ghost use Rattle.aq_setup.specs.Tables as tables;
+ghost use Rattle.aq_setup.specs.Constraints as constraints;
+ghost use Rattle.aq_setup.specs.Faults as faults;
+ghost use Rattle.aq_catalog.specs.Answers.{Tells};
+ghost use Rattle.aq_catalog.specs.References.{reference_faults};
+
+use crate::catalog::Catalog;
+use crate::constraints::NamedConstraint;
+use crate::fault::CatFault;
+use crate::lookups::first_repeat;
+use crate::names::{column_at, table_faults};
+use crate::references::{count_faults, key_faults, kind_faults, primary_faults};
+use crate::refusals::{
+    column_twice, constraint_exists, long_name, many_primary_keys, no_column, over_limit,
+};
+use crate::scopes::in_session;
+use aq_base::{Copies, List, Reference, TableConstraint, TextVal};
+use aq_bound::Column;
+use std::alloc::{AllocError, Global};
+use std::marker::Model;
+
+/// A foreign key among the constraints that are added.
+#[derive(Drop)]
+pub(crate) struct Referring<'a> {
+    pub(crate) name: &'a TextVal,
+    pub(crate) cols: &'a List<TextVal>,
+    pub(crate) reference: &'a Reference,
+}
+
+impl<'a> Model for Referring<'a> {
+    ghost use Rattle.aq_setup.specs.Tables.{Referring as Of};
+    ghost use Rattle.std.specs.Coded.{codes};
+
+    ghost Value = { Of };
+
+    ghost coded = { Prim.hlevel codes };
+
+    ghost view = { λ f. record { name = f.name.now; cols = f.cols.now; reference = f.reference.now } };
+}
+
+/// Adds what a constraint refers to, if it is a foreign key.
+pub(crate) fn push_referring<'a>(
+    out: &mut List<Referring<'a>>,
+    n: &'a NamedConstraint,
+) -> Result<(), AllocError>
+    ensures { OnOk result (out.new ≡ out.old ++ tables.referring_of n.now) }
+{
+    match &n.constraint {
+        TableConstraint::PrimaryKey { .. } | TableConstraint::Unique { .. } => Ok(()),
+        TableConstraint::ForeignKey {
+            columns,
+            reference,
+            ..
+        } => {
+            out.push(Referring {
+                name: &n.name,
+                cols: columns,
+                reference,
+            })?;
+            Ok(())
+        }
+    }
+}
+
+/// The foreign keys among some constraints.
+pub(crate) fn foreign_keys_of<'a>(
+    alloc: Global,
+    constraints: &'a [NamedConstraint],
+) -> Result<List<Referring<'a>>, AllocError>
+    ensures { IfOk result (λ made. made ≡ flat_map tables.referring_of constraints.now) }
+{
+    let mut made = List::new(alloc);
+    for n in constraints {
+        push_referring(&mut made, n)?;
+    }
+    Ok(made)
+}
+
+fn is_short(name: &TextVal) -> bool
+    ensures { result ≡ short name.now }
+{
+    name.bytes().len() <= 63
+}
+
+fn name_length(alloc: Global, name: &TextVal) -> Result<(), CatFault>
+    ensures { Tells (if short name.now then [] else faults.long_name name.now ∷ []) result }
+{
+    if is_short(name) {
+        Ok(())
+    } else {
+        Err(long_name(alloc, name))
+    }
+}
+
+fn length_of(alloc: Global, n: &NamedConstraint) -> Result<(), CatFault>
+    ensures { Tells (if short n.now.name then [] else faults.long_name n.now.name ∷ []) result }
+{
+    name_length(alloc, &n.name)
+}
+
+/// 42622
+pub(crate) fn long_names(alloc: Global, all: &[NamedConstraint]) -> Result<(), CatFault>
+    ensures { Tells (flat_map (λ n. if short n.name then [] else faults.long_name n.name ∷ []) all.now) result }
+{
+    for n in all {
+        length_of(alloc, n)?;
+    }
+    Ok(())
+}
+
+fn is_within(fks: usize, added: usize) -> bool
+    ensures { result ≡ nat_le (fks + added) 128 }
+{
+    match 128usize.checked_sub(added) {
+        None => false,
+        Some(left) => fks <= left,
+    }
+}
+
+/// 54000: a number of foreign keys, and of those that are added.
+pub(crate) fn reference_limit(alloc: Global, fks: usize, added: usize) -> Result<(), CatFault>
+    ensures { Tells (if nat_le (fks + added) 128 then [] else faults.over_limit (codes "128 foreign keys") ∷ []) result }
+{
+    if is_within(fks, added) {
+        Ok(())
+    } else {
+        Err(over_limit(alloc, "128 foreign keys"))
+    }
+}
+
+fn names_of(alloc: Global, constraints: &[NamedConstraint]) -> Result<List<TextVal>, AllocError>
+    ensures { IfOk result (λ made. made ≡ map (λ n. n.name) constraints.now) }
+{
+    let mut names = List::new(alloc);
+    for n in constraints {
+        push_name(&mut names, n)?;
+    }
+    Ok(names)
+}
+
+fn push_name(names: &mut List<TextVal>, n: &NamedConstraint) -> Result<(), AllocError>
+    ensures { OnOk result (names.new ≡ names.old ++ n.now.name ∷ []) }
+{
+    names.push(n.name.copy()?)?;
+    Ok(())
+}
+
+/// 42710: a name that a constraint of the table has that stands before.
+pub(crate) fn constraints_exist(
+    alloc: Global,
+    table: &TextVal,
+    taken: &[TextVal],
+    all: &[NamedConstraint],
+) -> Result<(), CatFault>
+    ensures { Tells (map (faults.constraint_exists table.now) (repeats_behind taken.now (map (λ n. n.name) all.now))) result }
+{
+    let names = names_of(alloc, all)?;
+    match first_repeat(taken, names.as_slice()) {
+        None => Ok(()),
+        Some(name) => Err(constraint_exists(alloc, table, name)),
+    }
+}
+
+/// 42701: columns of which one stands before.
+pub(crate) fn columns_twice(
+    alloc: Global,
+    before: &[TextVal],
+    names: &[TextVal],
+) -> Result<(), CatFault>
+    ensures { Tells (map faults.column_twice (repeats_behind before.now names.now)) result }
+{
+    match first_repeat(before, names) {
+        None => Ok(()),
+        Some(name) => Err(column_twice(alloc, name)),
+    }
+}
+
+fn constrained_columns(c: &TableConstraint) -> &[TextVal]
+    ensures { result.now ≡ constraints.constrained_columns c.now }
+{
+    let (TableConstraint::PrimaryKey { columns, .. }
+    | TableConstraint::Unique { columns, .. }
+    | TableConstraint::ForeignKey { columns, .. }) = c;
+    columns.as_slice()
+}
+
+fn columns_named(r: &Reference) -> &[TextVal]
+    ensures { result.now ≡ unwrap_or r.now.columns [] }
+{
+    match &r.columns {
+        None => &[],
+        Some(columns) => columns.as_slice(),
+    }
+}
+
+fn referred_names(c: &TableConstraint) -> &[TextVal]
+    ensures { result.now ≡ tables.referred_names (constraints.reference_of c.now) }
+{
+    match c {
+        TableConstraint::PrimaryKey { .. } | TableConstraint::Unique { .. } => &[],
+        TableConstraint::ForeignKey { reference, .. } => columns_named(reference),
+    }
+}
+
+/// 42701: in the columns of a key, of a foreign key and of what it refers to.
+pub(crate) fn listed_twice(alloc: Global, c: &TableConstraint) -> Result<(), CatFault>
+    ensures { Tells (tables.listed_twice c.now) result }
+{
+    columns_twice(alloc, &[], constrained_columns(c))?;
+    columns_twice(alloc, &[], referred_names(c))
+}
+
+fn is_primary(n: &NamedConstraint) -> bool
+    ensures { result ≡ constraints.is_primary n.now.constraint }
+{
+    matches!(n.constraint, TableConstraint::PrimaryKey { .. })
+}
+
+fn is_over_one(had: bool, all: &[NamedConstraint]) -> bool
+    ensures { result ≡ not (nat_le ((if had then 1 else 0) + length (filter (λ n. constraints.is_primary n.constraint) all.now)) 1) }
+{
+    let mut has = had;
+    for n in all {
+        if is_primary(n) {
+            if has {
+                return true;
+            }
+            has = true;
+        }
+    }
+    false
+}
+
+/// 42P16: the table has a primary key, or gets a second.
+pub(crate) fn second_primary(
+    alloc: Global,
+    table: &TextVal,
+    had: bool,
+    all: &[NamedConstraint],
+) -> Result<(), CatFault>
+    ensures { Tells (if nat_le ((if had then 1 else 0) + length (filter (λ n. constraints.is_primary n.constraint) all.now)) 1 then [] else faults.many_primary_keys table.now ∷ []) result }
+{
+    if is_over_one(had, all) {
+        Err(many_primary_keys(alloc, table))
+    } else {
+        Ok(())
+    }
+}
+
+fn missing_parent(alloc: Global, catalog: &Catalog, f: &Referring<'_>) -> Result<(), CatFault>
+    ensures { Tells (absent catalog.now f.now.reference.table) result }
+{
+    table_faults(alloc, &in_session(catalog), &f.reference.table)
+}
+
+/// 42P01
+pub(crate) fn missing_parents(
+    alloc: Global,
+    catalog: &Catalog,
+    found: &[Referring<'_>],
+) -> Result<(), CatFault>
+    ensures { Tells (flat_map (λ f. absent catalog.now f.reference.table) found.now) result }
+{
+    for f in found {
+        missing_parent(alloc, catalog, f)?;
+    }
+    Ok(())
+}
+
+fn missing_column(alloc: Global, cols: &[Column], name: &TextVal) -> Result<(), CatFault>
+    ensures { Tells (map faults.no_column (unknown cols.now name.now)) result }
+{
+    match column_at(cols, name) {
+        None => Err(no_column(alloc, name)),
+        Some(_) => Ok(()),
+    }
+}
+
+fn missing_among(alloc: Global, cols: &[Column], names: &[TextVal]) -> Result<(), CatFault>
+    ensures { Tells (map faults.no_column (flat_map (unknown cols.now) names.now)) result }
+{
+    for name in names {
+        missing_column(alloc, cols, name)?;
+    }
+    Ok(())
+}
+
+fn missing_referred(alloc: Global, catalog: &Catalog, c: &TableConstraint) -> Result<(), CatFault>
+    ensures { Tells (map faults.no_column (tables.referred_unknown catalog.now (constraints.reference_of c.now))) result }
+{
+    match c {
+        TableConstraint::PrimaryKey { .. } | TableConstraint::Unique { .. } => Ok(()),
+        TableConstraint::ForeignKey { reference, .. } => missing_among(
+            alloc,
+            catalog.columns_of(&reference.table),
+            columns_named(reference),
+        ),
+    }
+}
+
+fn missing_of(
+    alloc: Global,
+    catalog: &Catalog,
+    table: &TextVal,
+    n: &NamedConstraint,
+) -> Result<(), CatFault>
+    ensures { Tells (map faults.no_column (tables.constraint_unknown catalog.now table.now n.now.constraint)) result }
+{
+    missing_among(
+        alloc,
+        catalog.columns_of(table),
+        constrained_columns(&n.constraint),
+    )?;
+    missing_referred(alloc, catalog, &n.constraint)
+}
+
+/// 42703
+pub(crate) fn missing_columns(
+    alloc: Global,
+    catalog: &Catalog,
+    table: &TextVal,
+    all: &[NamedConstraint],
+) -> Result<(), CatFault>
+    ensures { Tells (map faults.no_column (flat_map (λ n. tables.constraint_unknown catalog.now table.now n.constraint) all.now)) result }
+{
+    for n in all {
+        missing_of(alloc, catalog, table, n)?;
+    }
+    Ok(())
+}
+
+fn count_of(alloc: Global, keyed: &Catalog, f: &Referring<'_>) -> Result<(), CatFault>
+    ensures { Tells (references.count_faults keyed.now (length f.now.cols) f.now.reference) result }
+{
+    count_faults(alloc, keyed, f.cols.len(), f.reference)
+}
+
+fn unequal_counts(alloc: Global, keyed: &Catalog, found: &[Referring<'_>]) -> Result<(), CatFault>
+    ensures { Tells (flat_map (λ f. references.count_faults keyed.now (length f.cols) f.reference) found.now) result }
+{
+    for f in found {
+        count_of(alloc, keyed, f)?;
+    }
+    Ok(())
+}
+
+fn key_of(alloc: Global, keyed: &Catalog, f: &Referring<'_>) -> Result<(), CatFault>
+    ensures { Tells (references.key_faults keyed.now f.now.reference) result }
+{
+    key_faults(alloc, keyed, f.reference)
+}
+
+fn without_key(alloc: Global, keyed: &Catalog, found: &[Referring<'_>]) -> Result<(), CatFault>
+    ensures { Tells (flat_map (λ f. references.key_faults keyed.now f.reference) found.now) result }
+{
+    for f in found {
+        key_of(alloc, keyed, f)?;
+    }
+    Ok(())
+}
+
+fn primary_of(alloc: Global, keyed: &Catalog, f: &Referring<'_>) -> Result<(), CatFault>
+    ensures { Tells (references.primary_faults keyed.now f.now.reference) result }
+{
+    primary_faults(alloc, keyed, f.reference)
+}
+
+fn without_primary(alloc: Global, keyed: &Catalog, found: &[Referring<'_>]) -> Result<(), CatFault>
+    ensures { Tells (flat_map (λ f. references.primary_faults keyed.now f.reference) found.now) result }
+{
+    for f in found {
+        primary_of(alloc, keyed, f)?;
+    }
+    Ok(())
+}
+
+fn kinds_of(
+    alloc: Global,
+    keyed: &Catalog,
+    table: &TextVal,
+    f: &Referring<'_>,
+) -> Result<(), CatFault>
+    ensures { Tells (references.kind_faults keyed.now table.now f.now.name f.now.cols f.now.reference) result }
+{
+    kind_faults(alloc, keyed, table, f.name, f.cols, f.reference)
+}
+
+fn unequal_references(
+    alloc: Global,
+    keyed: &Catalog,
+    table: &TextVal,
+    found: &[Referring<'_>],
+) -> Result<(), CatFault>
+    ensures { Tells (flat_map (λ f. references.kind_faults keyed.now table.now f.name f.cols f.reference) found.now) result }
+{
+    for f in found {
+        kinds_of(alloc, keyed, table, f)?;
+    }
+    Ok(())
+}
+
+/// 42830, 42704 and 42804 of foreign keys, in a catalog with the keys of the statement.
+pub(crate) fn reference_faults(
+    alloc: Global,
+    keyed: &Catalog,
+    table: &TextVal,
+    found: &[Referring<'_>],
+) -> Result<(), CatFault>
+    ensures { Tells (reference_faults keyed.now table.now found.now) result }
+{
+    unequal_counts(alloc, keyed, found)?;
+    without_key(alloc, keyed, found)?;
+    without_primary(alloc, keyed, found)?;
+    unequal_references(alloc, keyed, table, found)
+}

@@ -1,0 +1,197 @@
+//! What a catalog has under a name or a number.
+
+ghost use Rattle.std.specs.Prelude.{◌≡◌, ◌&&◌, ◌||◌, ◌==◌, IfOk, filter, find, map, option_map, slice_get};
+ghost use Rattle.std.specs.List.{enumerate_from, list_any};
+ghost use Rattle.std.specs.Option.{option_copied};
+ghost use Rattle.aq_base.specs.Names.{same_text as same};
+ghost use Rattle.aq_setup.specs.Catalogs as catalogs;
+ghost use Rattle.aq_setup.specs.Scopes as scopes;
+ghost use Rattle.aq_setup.specs.Tables as tables;
+ghost use Rattle.aq_setup.specs.Triggers.{first_text};
+
+use crate::catalog::Catalog;
+use crate::names::column_at;
+use aq_base::{ColNo, Copies, KeyNo, Kind, List, Same, TextVal};
+use aq_bound::{Column, Constraint, UniqueKey};
+use std::alloc::{AllocError, Global};
+
+/// Whether two texts are the same.
+pub(crate) fn same_text(a: &TextVal, b: &TextVal) -> bool
+    ensures { result ≡ same a.now b.now }
+{
+    a.same(b)
+}
+
+/// Whether a text is in a list.
+pub(crate) fn is_in(names: &[TextVal], name: &TextVal) -> bool
+    ensures { result ≡ list_any (same name.now) names.now }
+{
+    names.iter().any(|other| same_text(name, other))
+}
+
+/// A number in 16 bits. The error is that it has no room there.
+pub(crate) fn in_16_bits(number: usize) -> Result<u16, AllocError>
+    ensures { IfOk result (λ made. made ≡ number) }
+{
+    match u16::try_from(number) {
+        Ok(small) => Ok(small),
+        Err(_) => Err(AllocError),
+    }
+}
+
+/// The number of a table that is there.
+pub(crate) fn number_of_table(catalog: &Catalog, name: &TextVal) -> usize
+    ensures { result ≡ scopes.number_of_table catalog.now name.now }
+{
+    catalog.table_at(name).unwrap_or(0)
+}
+
+/// The number of a column that is there.
+pub(crate) fn number_of_column(cols: &[Column], name: &TextVal) -> usize
+    ensures { result ≡ scopes.number_of_column cols.now name.now }
+{
+    column_at(cols, name).unwrap_or(0)
+}
+
+/// The numbers of columns that are there.
+pub(crate) fn numbers_of_columns(
+    alloc: Global,
+    cols: &[Column],
+    names: &[TextVal],
+) -> Result<List<ColNo>, AllocError>
+    ensures { IfOk result (λ made. made ≡ map (scopes.number_of_column cols.now) names.now) }
+{
+    let mut made = List::new(alloc);
+    for name in names {
+        made.push(ColNo::new(in_16_bits(number_of_column(cols, name))?))?;
+    }
+    Ok(made)
+}
+
+/// The kind of the column with a number.
+pub(crate) fn kind_at(cols: &[Column], number: usize) -> Option<Kind>
+    ensures { result ≡ option_map (λ col. col.kind) (slice_get cols.now number) }
+{
+    cols.get(number).map(|col| col.kind)
+}
+
+/// Whether a number is that of one of the columns.
+pub(crate) fn is_column_in(cols: &[ColNo], number: usize) -> bool
+    ensures { result ≡ catalogs.is_number_in cols.now number }
+{
+    cols.iter().any(|col| usize::from(col.get()) == number)
+}
+
+fn is_key_in(keys: &[KeyNo], number: usize) -> bool
+    ensures { result ≡ catalogs.is_number_in keys.now number }
+{
+    keys.iter().any(|key| usize::from(key.get()) == number)
+}
+
+fn first_primary<'a>(
+    primaries: &[KeyNo],
+    keys: &'a [UniqueKey],
+    table: usize,
+) -> Option<&'a List<ColNo>>
+    ensures { option_copied result ≡ option_map (λ entry. entry.1.cols) (find (λ entry. catalogs.is_number_in primaries.now entry.0 && entry.1.table == table) (enumerate_from 0 keys.now)) }
+{
+    for (number, key) in keys.iter().enumerate() {
+        if is_key_in(primaries, number) && usize::from(key.table.get()) == table {
+            return Some(&key.cols);
+        }
+    }
+    None
+}
+
+/// The columns of a table's primary key.
+pub(crate) fn primary_cols(catalog: &Catalog, table: usize) -> Option<&List<ColNo>>
+    ensures { option_copied result ≡ catalogs.primary_cols catalog.now table }
+{
+    first_primary(catalog.primaries.as_slice(), catalog.keys.as_slice(), table)
+}
+
+fn is_of(constraint: &Constraint, table: usize) -> bool
+    ensures { result ≡ (constraint.now.table == table) }
+{
+    usize::from(constraint.table.get()) == table
+}
+
+fn names_of(
+    alloc: Global,
+    constraints: &[Constraint],
+    table: usize,
+) -> Result<List<TextVal>, AllocError>
+    ensures { IfOk result (λ made. made ≡ map (λ con. con.name) (filter (λ con. con.table == table) constraints.now)) }
+{
+    let mut names = List::new(alloc);
+    for constraint in constraints {
+        if is_of(constraint, table) {
+            names.push(constraint.name.copy()?)?;
+        }
+    }
+    Ok(names)
+}
+
+/// The names of a table's constraints.
+pub(crate) fn constraint_names(
+    alloc: Global,
+    catalog: &Catalog,
+    table: usize,
+) -> Result<List<TextVal>, AllocError>
+    ensures { IfOk result (λ made. made ≡ catalogs.constraint_names catalog.now table) }
+{
+    names_of(alloc, catalog.constraints.as_slice(), table)
+}
+
+/// A list of columns with the same numbers. The error is want of memory.
+pub(crate) fn copied_cols(alloc: Global, cols: &[ColNo]) -> Result<List<ColNo>, AllocError>
+    ensures { IfOk result (λ made. made ≡ cols.now) }
+{
+    let mut made = List::new(alloc);
+    for col in cols {
+        made.push(*col)?;
+    }
+    Ok(made)
+}
+
+fn stood_before(taken: &[TextVal], before: &[TextVal], name: &TextVal) -> bool
+    ensures { result ≡ (list_any (same name.now) taken.now || list_any (same name.now) before.now) }
+{
+    is_in(taken, name) || is_in(before, name)
+}
+
+/// The first name that is taken or stands before.
+pub(crate) fn first_repeat<'a>(taken: &[TextVal], names: &'a [TextVal]) -> Option<&'a TextVal>
+    ensures { option_copied result ≡ first_text (scopes.repeats_behind taken.now names.now) }
+{
+    for (place, name) in names.iter().enumerate() {
+        if stood_before(taken, &names[..place], name) {
+            return Some(name);
+        }
+    }
+    None
+}
+
+/// The names of the constraints of a table, none where there is no such table.
+pub(crate) fn names_taken(
+    alloc: Global,
+    catalog: &Catalog,
+    table: Option<usize>,
+) -> Result<List<TextVal>, AllocError>
+    ensures { IfOk result (λ made. made ≡ tables.names_taken catalog.now table) }
+{
+    match table {
+        None => Ok(List::new(alloc)),
+        Some(table) => constraint_names(alloc, catalog, table),
+    }
+}
+
+/// Whether there is a table with a primary key under a number.
+pub(crate) fn has_primary(catalog: &Catalog, table: Option<usize>) -> bool
+    ensures { result ≡ tables.has_primary catalog.now table }
+{
+    match table {
+        None => false,
+        Some(table) => primary_cols(catalog, table).is_some(),
+    }
+}
