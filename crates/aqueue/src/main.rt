@@ -1,9 +1,13 @@
 //! `aqueue` runs a script of sessions over tables in memory: `aqueue replay` reads it from standard input, and writes the replies, the tables
-//! and the schedule of its steps to standard output.
+//! and the schedule of its steps to standard output. `aqueue check` writes the script in canonical form.
 #![tactic(auto)]
 
+mod check;
+mod fault;
 mod program;
 mod replay;
+mod setup;
+mod task;
 
 use crate::program::aqueue;
 use aq_base::{List, NoMemory, TextVal};

@@ -4,27 +4,18 @@ ghost use Rattle.std.specs.Prelude.{◌≡◌, true, IfOk, IfErr};
 ghost use Rattle.aq_base.specs.Scripts.{fits_first_language};
 ghost use Rattle.aq_base.specs.declared.simple.SimpleScript.{SimpleScript};
 ghost use Rattle.aq_simple.specs.Simple.{Runs, not_built_line};
-ghost use Rattle.aqueue.specs.Answers.{RunsAs, IsReplay, IsTextOf, IsRefusal, HasNoRun, not_built};
-ghost use Rattle.aqueue.specs.Faults.{IfScript, run_fault};
+ghost use Rattle.aqueue.specs.declared.task.Task.TheVariants.{Replay};
+ghost use Rattle.aqueue.specs.Answers.{RunsAs, IsReplay, IsTextOf, IsRefusal, CannotBeDone, not_built};
+ghost use Rattle.aqueue.specs.Faults.{IfScript};
 
+use crate::fault::RunFault;
+use crate::setup::set_up;
 use aq_base::{Code, List, NoMemory, Script, SimpleScript, SqlFault, TextVal};
 use aq_journal::Shared;
 use aq_machine::Machine;
-use aq_script::{ScriptFault, one_reading, read_script};
+use aq_script::one_reading;
 use aq_simple::{SimpleFault, simple_script};
 use std::alloc::Global;
-use thiserror::Error;
-
-/// Why bytes have no text of a run.
-#[derive(Debug, Drop, Error)]
-pub enum RunFault {
-    /// Want of memory.
-    #[error("out of memory")]
-    NoMemory,
-    /// The bytes are no script, or one that isn't run yet: the line that is refused, counted from 1, and why.
-    #[error("line {line} is refused")]
-    Script { line: u64, fault: SqlFault },
-}
 
 fn replayed(alloc: Global, script: SimpleScript) -> Result<List<u8>, NoMemory>
     requires { fits_first_language script ≡ true }
@@ -43,15 +34,6 @@ fn not_built(alloc: Global) -> Result<SqlFault, NoMemory>
         text: TextVal::new(alloc, "this form is not built")?,
         detail: None,
     })
-}
-
-fn run_fault(fault: ScriptFault) -> RunFault
-    ensures { result ≡ run_fault fault }
-{
-    match fault {
-        ScriptFault::NoMemory => RunFault::NoMemory,
-        ScriptFault::Refused { line, fault } => RunFault::Script { line, fault },
-    }
 }
 
 /// What runs of a script, or the first line with which it leaves what runs.
@@ -73,21 +55,21 @@ fn running(alloc: Global, script: &Script) -> Result<SimpleScript, RunFault>
 /// What runs of the script that bytes are, or the first line that is refused.
 fn read_running(alloc: Global, bytes: &[u8]) -> Result<SimpleScript, RunFault>
     ensures runs { IfOk result (RunsAs bytes.now) }
-    ensures refused { IfErr result (λ fault. IfScript fault (IsRefusal bytes.now)) }
-    ensures none { IfErr result (λ fault. IfScript fault (λ line why. HasNoRun bytes.now)) }
+    ensures refused { IfErr result (λ fault. IfScript fault (IsRefusal bytes.now Replay)) }
+    ensures none { IfErr result (λ fault. IfScript fault (λ line why. CannotBeDone Replay bytes.now)) }
 {
     one_reading();
-    match read_script(alloc, bytes) {
+    match set_up(alloc, bytes) {
         Ok(script) => running(alloc, &script),
-        Err(fault) => Err(run_fault(fault)),
+        Err(fault) => Err(fault),
     }
 }
 
 /// The text of the script's run by the default schedule. It waits for nobody and always returns.
 pub fn replay_script(alloc: Global, bytes: &[u8]) -> Result<List<u8>, RunFault>
     ensures replayed { IfOk result (IsReplay bytes.now) }
-    ensures refused { IfErr result (λ fault. IfScript fault (IsRefusal bytes.now)) }
-    ensures none { IfErr result (λ fault. IfScript fault (λ line why. HasNoRun bytes.now)) }
+    ensures refused { IfErr result (λ fault. IfScript fault (IsRefusal bytes.now Replay)) }
+    ensures none { IfErr result (λ fault. IfScript fault (λ line why. CannotBeDone Replay bytes.now)) }
 {
     match read_running(alloc, bytes) {
         Ok(simple) => replayed(alloc, simple).map_err(|_| RunFault::NoMemory),

@@ -178,19 +178,124 @@ schedule shop*10
 }
 
 #[test]
-fn only_replay_is_built(rt: HostRuntime) -> Result<(), Fail> {
-    let cases: [&[&str]; 5] = [
+fn words_that_are_no_list_that_is_built(rt: HostRuntime) -> Result<(), Fail> {
+    let cases: [&[&str]; 9] = [
         &[],
-        &["check"],
-        &["replay", "--trace"],
         &["Replay"],
         &["replay", "replay"],
+        &["replay", "--trace"],
+        &["replay", "--trace", "--trace"],
+        &["run"],
+        &["check", "check"],
+        &["drill", "--rows", "7"],
+        &["drill", "--rows", "007"],
     ];
     for words in cases {
         let (status, sink) = answer_of(rt.alloc(), words, PARENT_AND_CHILD, 4096, &[], 4096)?;
         assert_eq!(rt; status, 1);
         assert_eq!(rt; sink.bytes(), USAGE.as_bytes());
     }
+    Ok(())
+}
+
+#[test]
+fn scripts_in_canonical_form(rt: HostRuntime) -> Result<(), Fail> {
+    let cases = [
+        ("", ""),
+        (
+            "\\setup
+create table t (id int primary key, v text default 'x');
+\\session a
+insert into t values (1, default);",
+            "\\setup
+CREATE TABLE t (id integer PRIMARY KEY, v text DEFAULT 'x');
+\\session a
+INSERT INTO t VALUES (1, DEFAULT);
+",
+        ),
+        (
+            "\\session a
+select * from t where a+1*2=3 and not b;",
+            "\\session a
+SELECT * FROM t WHERE ((a + (1 * 2)) = 3) AND (NOT b);
+",
+        ),
+    ];
+    for (script, text) in cases {
+        let (status, sink) = answer_of(rt.alloc(), &["check"], script, 4096, &[], 4096)?;
+        assert_eq!(rt; status, 0, "at {script}");
+        assert_eq!(rt; sink.bytes(), text.as_bytes(), "at {script}");
+    }
+    Ok(())
+}
+
+#[test]
+fn setups_that_are_refused(rt: HostRuntime) -> Result<(), Fail> {
+    let cases = [
+        (
+            "\\setup
+CREATE TABLE p (id integer PRIMARY KEY, v text);
+CREATE TABLE c (
+  pid text REFERENCES p (v)
+);",
+            "aqueue: line 3: 42830 there is no unique constraint matching given keys for referenced table \"p\"\n",
+        ),
+        (
+            "\\setup CREATE TABLE t (id integer);
+
+CREATE TRIGGER x AFTER INSERT ON t FOR EACH ROW EXECUTE FUNCTION native_ordered();",
+            "aqueue: line 3: 42883 function native_ordered() does not exist\n",
+        ),
+        (
+            "\\setup CREATE TABLE t (id integer, id text REFERENCES q (a, b));",
+            "aqueue: line 1: 42701 column \"id\" specified more than once\n",
+        ),
+    ];
+    for (script, line) in cases {
+        for word in ["check", "replay"] {
+            let (status, sink) = answer_of(rt.alloc(), &[word], script, 4096, &[], 4096)?;
+            assert_eq!(rt; status, 2, "at {script}");
+            assert_eq!(rt; sink.bytes(), line.as_bytes(), "at {script}");
+        }
+    }
+    Ok(())
+}
+
+// A WHERE on line 2 of so many ones with a plus between them.
+fn a_sum_of(alloc: Global, ones: usize) -> Result<String, NoMemory> {
+    let mut script = String::from_str(alloc, "\\session a\nSELECT * FROM t WHERE 1")?;
+    for _ in 1..ones {
+        script.push_str(" + 1")?;
+    }
+    script.push_str(";")?;
+    Ok(script)
+}
+
+#[test]
+fn the_longest_expression(rt: HostRuntime) -> Result<(), Fail> {
+    // 500 ones and 499 plus signs are 999 tokens; the plus sign and the one more are over the limit.
+    let (status, _sink) = answer_of(
+        rt.alloc(),
+        &["check"],
+        a_sum_of(rt.alloc(), 500)?.as_str(),
+        4096,
+        &[],
+        16384,
+    )?;
+    assert_eq!(rt; status, 0);
+    let (status, sink) = answer_of(
+        rt.alloc(),
+        &["check"],
+        a_sum_of(rt.alloc(), 501)?.as_str(),
+        4096,
+        &[],
+        16384,
+    )?;
+    assert_eq!(rt; status, 2);
+    assert_eq!(rt;
+        sink.bytes(),
+        b"aqueue: line 2: 54000 expression limit of 1000 tokens reached\n".as_slice()
+    );
     Ok(())
 }
 
