@@ -5,6 +5,9 @@ bytes       so many bytes, most of them in texts of 1,000 bytes
 nested      one expression of so many tokens: a number in parentheses
 open        one expression of so many parentheses that are never closed
 ifs         a function with so many IFs open
+bodies      a trigger whose function has so many statements, over 64 tables of 32 columns
+functions   so many functions, and 64 triggers that name the last of them
+keys        so many unique keys of one table, each added by a statement
 
 The last statement of the first two is refused, so that nothing is run.
 """
@@ -40,6 +43,39 @@ def ifs(size):
     return "\\setup\nCREATE FUNCTION f() RETURNS trigger LANGUAGE plpgsql AS $$ BEGIN " + body + "END $$;\n"
 
 
-SHAPES = {"statements": statements, "bytes": in_bytes, "nested": nested, "open": opened, "ifs": ifs}
+def tables():
+    columns = ", ".join("c%d integer" % n for n in range(1, 32))
+    return "".join("CREATE TABLE t%d (c0 integer PRIMARY KEY, %s);\n" % (n, columns) for n in range(64))
+
+
+def function(name, body):
+    return "CREATE FUNCTION %s() RETURNS trigger LANGUAGE plpgsql AS $$ BEGIN %s RETURN NULL; END $$;\n" % (name, body)
+
+
+def trigger(name, function):
+    return "CREATE TRIGGER %s AFTER UPDATE ON t0 FOR EACH ROW EXECUTE FUNCTION %s();\n" % (name, function)
+
+
+def bodies(size):
+    forms = [
+        "INSERT INTO t%d (c0, c31) VALUES (NEW.c0, OLD.c31 + 1); ",
+        "UPDATE t%d SET c5 = c6 + 1 WHERE c31 = NEW.c30; ",
+        "DELETE FROM t%d WHERE c30 = OLD.c29 AND c28 > 5; ",
+    ]
+    statements = "".join(forms[n % 3] % (n % 64) for n in range(size))
+    return "\\setup\n" + tables() + function("f", statements) + trigger("x", "f")
+
+
+def functions(size):
+    made = "".join(function("f%d" % n, "") for n in range(size))
+    named = "".join(trigger("x%d" % n, "f%d" % (size - 1)) for n in range(64))
+    return "\\setup\nCREATE TABLE t0 (c0 integer);\n" + made + named
+
+
+def keys(size):
+    return "\\setup\nCREATE TABLE t0 (c0 integer);\n" + "".join("ALTER TABLE t0 ADD CONSTRAINT k%d UNIQUE (c0);\n" % n for n in range(size))
+
+
+SHAPES = {"statements": statements, "bytes": in_bytes, "nested": nested, "open": opened, "ifs": ifs, "bodies": bodies, "functions": functions, "keys": keys}
 
 sys.stdout.write(SHAPES[sys.argv[1]](int(sys.argv[2])))
