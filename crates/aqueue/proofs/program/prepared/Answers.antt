@@ -10,7 +10,7 @@ use Rattle.aqueue.proofs.program.prepared.Goals as goal
 
 pub returns-in_default-clause-cases : goal.returns-in_default-clause-cases
 returns-in_default-clause-cases g c =
-    let none : task_of c.args.words.now ≡ None = Prim.search rules in
+    let none : task_of c.args.words.now ≡ None = search rules in
     usage_answer c.args.words.now (g.S.Source.left c.args.input.now) c.in_ok-line_of.field-0 none c.in_ok-line_of.ensures
 
 pub returns-in-All-clause-cases : goal.returns-in-All-clause-cases

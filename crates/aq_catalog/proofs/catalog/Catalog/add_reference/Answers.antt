@@ -6,7 +6,7 @@ use Rattle.aq_catalog.proofs.catalog.Catalog.add_reference.Goals as goal
 
 pub returns-clause-ok : goal.returns-clause-ok
 returns-clause-ok c =
-    let named : c.in_ok-constraint.constraint ≡ record { name = c.args.f.now.name; table = c.args.child; decl = c.args.f.now.reference.timing } = Prim.search rules in
+    let named : c.in_ok-constraint.constraint ≡ record { name = c.args.f.now.name; table = c.args.child; decl = c.args.f.now.reference.timing } = search rules in
     let own = c.in_ok-made.made in
     on_ok c.put_reference.result _ _
     (reference_as_defined c.args.child c.args.f.now c.args.self.now c.put_reference.new.self c.in_ok-fk.fk c.in_ok-constraint.constraint
