@@ -1,4 +1,13 @@
-# What the scripts of this folder share: sourced, with the program in $program and a folder for files in $folder.
+# What the scripts of this folder share. They source it with their own arguments, of which the first may name a program.
+set -euo pipefail
+here=$(cd "$(dirname "$0")" && pwd)
+program=${1:-$here/../crates/aqueue/out/aqueue}
+if [ ! -x "$program" ]; then
+    echo "there is no program $program: build it by 'rt run' in crates/aqueue" >&2
+    exit 1
+fi
+folder=$(mktemp -d)
+trap 'rm -r "$folder"' EXIT
 
 # Runs a command of the program on a script, and sets its status and the microseconds that it took.
 measure() {
