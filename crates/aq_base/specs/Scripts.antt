@@ -25,10 +25,10 @@ abbrev pub constraint_fits : Catalog → Text → Text → Option SimpleConstrai
 constraint_fits cat table col None = true
 constraint_fits cat table col (Some PrimaryKey) = is_short (primary_key_name table)
 constraint_fits cat table col (Some (References parent decl)) =
-    is_name parent && is_some (referred parent cat) && is_short (foreign_key_name table col)
+    is_some (referred parent cat) && is_short (foreign_key_name table col)
 
 abbrev pub column_fits : Catalog → Text → SimpleColumn → Bool
-column_fits cat table item = is_name item.name && constraint_fits cat table item.name item.constraint
+column_fits cat table item = constraint_fits cat table item.name item.constraint
 
 -- the table and its keys, behind what was there before
 abbrev pub with_keys : Catalog → Text → List SimpleColumn → Catalog
@@ -37,7 +37,7 @@ with_keys cat table items = adds_keys (length cat.tables) table 0 items (adds_ta
 -- the table may be created after what is there: 64 tables, 32 columns and 128 foreign keys at the most, and one primary key
 abbrev pub can_create : Catalog → Text → List SimpleColumn → Bool
 can_create cat table items =
-    is_name table && is_none (table_number table cat) && nat_lt (length cat.tables) 64 && nat_le (length items) 32
+    is_none (table_number table cat) && nat_lt (length cat.tables) 64 && nat_le (length items) 32
     && all_differ (map (λ item. item.name) items) && list_all (column_fits (with_keys cat table items) table) items
     && nat_le (count_by (λ item. is_primary item.constraint) items) 1
     && nat_le (length cat.fks + count_by (λ item. is_reference item.constraint) items) 128
@@ -68,8 +68,8 @@ table_named cat name = on_number cat (table_number name cat)
 
 abbrev pub can_run : Catalog → SimpleStatement → Bool
 can_run cat (CreateTable table items) = false
-can_run cat (Insert table rows) = is_name table && rows_fit (table_named cat table) rows
-can_run cat (Delete table) = is_name table && is_some (table_number table cat)
+can_run cat (Insert table rows) = rows_fit (table_named cat table) rows
+can_run cat (Delete table) = is_some (table_number table cat)
 can_run cat Begin = true
 can_run cat Commit = true
 can_run cat Rollback = true

@@ -2,21 +2,22 @@
 
 ghost use Rattle.std.specs.Prelude.{◌≡◌, ◌++◌, map, codes, OnOk};
 ghost use Rattle.std.specs.List.{flat_map};
+ghost use Rattle.aq_texts.specs.Written.{name_text};
 ghost use Rattle.aq_texts.specs.Rows.{line, joined, row_text};
 ghost use Rattle.aq_run.specs.Texts.{table_text};
 
 use aq_base::{Column, NoMemory, Row, Table};
-use aq_print::push_row;
+use aq_print::{push_name, push_row};
 
 fn push_next_column(out: &mut Vec<u8>, col: &Column) -> Result<(), NoMemory>
-    ensures { OnOk result (out.new.items ≡ out.old.items ++ (codes ", " ++ col.now.name)) }
+    ensures { OnOk result (out.new.items ≡ out.old.items ++ (codes ", " ++ name_text col.now.name)) }
 {
     out.extend_from_slice(b", ")?;
-    out.extend_from_slice(col.name.bytes())
+    push_name(out, &col.name)
 }
 
 fn push_later_columns(out: &mut Vec<u8>, cols: &[Column]) -> Result<(), NoMemory>
-    ensures { OnOk result (out.new.items ≡ out.old.items ++ flat_map (λ col. codes ", " ++ col.name) cols.now) }
+    ensures { OnOk result (out.new.items ≡ out.old.items ++ flat_map (λ col. codes ", " ++ name_text col.name) cols.now) }
 {
     for col in cols {
         push_next_column(out, col)?;
@@ -25,21 +26,21 @@ fn push_later_columns(out: &mut Vec<u8>, cols: &[Column]) -> Result<(), NoMemory
 }
 
 fn push_columns(out: &mut Vec<u8>, cols: &[Column]) -> Result<(), NoMemory>
-    ensures { OnOk result (out.new.items ≡ out.old.items ++ joined (map (λ col. col.name) cols.now)) }
+    ensures { OnOk result (out.new.items ≡ out.old.items ++ joined (map (λ col. name_text col.name) cols.now)) }
 {
     let Some((first, others)) = cols.split_first() else {
         return Ok(());
     };
-    out.extend_from_slice(first.name.bytes())?;
+    push_name(out, &first.name)?;
     push_later_columns(out, others)?;
     Ok(())
 }
 
 fn push_heading(out: &mut Vec<u8>, table: &Table) -> Result<(), NoMemory>
-    ensures { OnOk result (out.new.items ≡ out.old.items ++ line (codes "table " ++ table.now.name ++ codes " (" ++ joined (map (λ col. col.name) table.now.cols) ++ codes ")")) }
+    ensures { OnOk result (out.new.items ≡ out.old.items ++ line (codes "table " ++ name_text table.now.name ++ codes " (" ++ joined (map (λ col. name_text col.name) table.now.cols) ++ codes ")")) }
 {
     out.extend_from_slice(b"table ")?;
-    out.extend_from_slice(table.name.bytes())?;
+    push_name(out, &table.name)?;
     out.extend_from_slice(b" (")?;
     push_columns(out, table.cols.as_slice())?;
     out.extend_from_slice(b")\n")

@@ -17,6 +17,7 @@ mod tables;
 mod traces;
 mod triggers;
 
+pub use names::push_name;
 pub use replies::{print_reply, push_reply};
 pub use rows::{print_row, push_row};
 pub use schedule::{Named, Runs, print_schedule, push_schedule};

@@ -15,6 +15,7 @@ use Rattle.aq_run.specs.Effects.{effects}
 use Rattle.aq_run.specs.Steps.{effects_of, scene_of, step}
 use Rattle.aq_run.specs.Runs.{Schedule, CanRunFrom, IsSchedule}
 use Rattle.aq_run.specs.Texts.{given_text, replies_text, table_text, table_rows, tables_text, text_of}
+use Rattle.aq_texts.specs.Written.{name_text}
 use Rattle.aq_texts.specs.Rows.{line, joined, row_text}
 use Rattle.aq_texts.specs.Replies.{reply_text}
 use Rattle.aq_texts.specs.Schedules.{name_at, runs_of, run_item}
@@ -35,7 +36,7 @@ schedule_is_told names are differ text v w p q tells_v tells_w =
 -- ---- the text of a run tells its schedule
 
 abbrev table_head : Table → Text
-table_head table = codes "table " ++ table.name ++ codes " (" ++ joined (map (λ col. col.name) table.cols) ++ codes ")"
+table_head table = codes "table " ++ name_text table.name ++ codes " (" ++ joined (map (λ col. name_text col.name) table.cols) ++ codes ")"
 
 table-lines : (table : Table) (rows : List Row) → is_lines (table_text table rows) ≡ true
 table-lines table rows =

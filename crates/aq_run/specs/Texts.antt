@@ -6,6 +6,7 @@ use Rattle.aq_base.specs.Names.{Text}
 use Rattle.aq_base.specs.Databases.{Database, rows_of}
 use Rattle.aq_base.specs.Setup.{Program}
 use Rattle.aq_base.specs.declared.catalog.Table.{Table}
+use Rattle.aq_texts.specs.Written.{name_text}
 use Rattle.aq_texts.specs.Rows.{line, joined, row_text}
 use Rattle.aq_texts.specs.Replies.{reply_line}
 use Rattle.aq_texts.specs.Schedules.{name_at, schedule_line}
@@ -28,7 +29,7 @@ table_rows table db = map (λ entry. entry.1.values) (rows_of table db)
 
 abbrev pub table_text : Table → List Row → Text
 table_text table rows =
-    line (codes "table " ++ table.name ++ codes " (" ++ joined (map (λ col. col.name) table.cols) ++ codes ")")
+    line (codes "table " ++ name_text table.name ++ codes " (" ++ joined (map (λ col. name_text col.name) table.cols) ++ codes ")")
     ++ flat_map (λ row. line (row_text row)) rows
 
 -- the tables in creation order, from a first number on

@@ -371,13 +371,13 @@ constraint_same : (earlier : List SimplePlaced) (cat : Catalog) (line : ℕ) (ta
 constraint_same earlier cat line table items made col None = refl
 constraint_same earlier cat line table items made col (Some PrimaryKey) = refl
 constraint_same earlier cat line table items made col (Some (References parent decl)) =
-    ap (λ (there : Bool). is_name parent && there && is_short (foreign_key_name table col)) (reference_same earlier cat line table items made parent)
+    ap (λ (there : Bool). there && is_short (foreign_key_name table col)) (reference_same earlier cat line table items made parent)
 
 columns_same : (earlier : List SimplePlaced) (cat : Catalog) (line : ℕ) (table : Text) (items : List SimpleColumn) → IsMadeBy (earlier ++ record { line = line; statement = CreateTable table items } ∷ []) cat
     → (some : List SimpleColumn) → list_all (column_kept earlier table items) some ≡ list_all (column_fits cat table) some
 columns_same earlier cat line table items made [] = refl
 columns_same earlier cat line table items made (item ∷ others) =
-    ap (λ (fits : Bool). (is_name item.name && fits) && list_all (column_kept earlier table items) others) (constraint_same earlier cat line table items made item.name item.constraint)
+    ap (λ (fits : Bool). fits && list_all (column_kept earlier table items) others) (constraint_same earlier cat line table items made item.name item.constraint)
     ∙ ap (λ (rest : Bool). column_fits cat table item && rest) (columns_same earlier cat line table items made others)
 
 create_same : (earlier : List SimplePlaced) (cat : Catalog) → Stands earlier cat → (table : Text) (items : List SimpleColumn) → create_kept earlier table items ≡ can_create cat table items
@@ -387,14 +387,13 @@ create_same earlier cat stands table items =
     let keyed : Catalog = with_keys cat table items in
     let columns = columns_same earlier keyed 0 table items (with_keys_made earlier cat 0 table items stands.made) items in
     let fks = sym stands.fks in
-    let named : Bool = is_name table in
     let short : Bool = nat_le (length items) 32 in
     let differ : Bool = all_differ (map (λ item. item.name) items) in
     let primary : Bool = nat_le (primaries_in items) 1 in
-    ap (λ (a : Bool). named && a && nat_lt (length earlier) 64 && short && differ && list_all (column_kept earlier table items) items && primary && nat_le (references_before earlier + references_in items) 128) none
-    ∙ (ap (λ (n : ℕ). named && is_none (table_number table cat) && nat_lt n 64 && short && differ && list_all (column_kept earlier table items) items && primary && nat_le (references_before earlier + references_in items) 128) tables
-    ∙ (ap (λ (b : Bool). named && is_none (table_number table cat) && nat_lt (length cat.tables) 64 && short && differ && b && primary && nat_le (references_before earlier + references_in items) 128) columns
-    ∙ ap (λ (k : ℕ). named && is_none (table_number table cat) && nat_lt (length cat.tables) 64 && short && differ && list_all (column_fits keyed table) items && primary && nat_le (k + references_in items) 128) fks))
+    ap (λ (a : Bool). a && nat_lt (length earlier) 64 && short && differ && list_all (column_kept earlier table items) items && primary && nat_le (references_before earlier + references_in items) 128) none
+    ∙ (ap (λ (n : ℕ). is_none (table_number table cat) && nat_lt n 64 && short && differ && list_all (column_kept earlier table items) items && primary && nat_le (references_before earlier + references_in items) 128) tables
+    ∙ (ap (λ (b : Bool). is_none (table_number table cat) && nat_lt (length cat.tables) 64 && short && differ && b && primary && nat_le (references_before earlier + references_in items) 128) columns
+    ∙ ap (λ (k : ℕ). is_none (table_number table cat) && nat_lt (length cat.tables) 64 && short && differ && list_all (column_fits keyed table) items && primary && nat_le (k + references_in items) 128) fks))
 
 -- ---- one more statement
 
@@ -403,21 +402,18 @@ constraint_there : (earlier : List SimplePlaced) (cat : Catalog) (line : ℕ) (t
 constraint_there earlier cat line table items made col None kept = refl
 constraint_there earlier cat line table items made col (Some PrimaryKey) kept = refl
 constraint_there earlier cat line table items made col (Some (References parent decl)) kept =
-    let p = and_parts (is_name parent && has_primary (items_with earlier table items parent)) (is_short (foreign_key_name table col)) kept in
-    let q = and_parts (is_name parent) (has_primary (items_with earlier table items parent)) p.0 in
-    sym (reference_same earlier cat line table items made parent) ∙ q.1
+    sym (reference_same earlier cat line table items made parent) ∙ (and_parts (has_primary (items_with earlier table items parent)) (is_short (foreign_key_name table col)) kept).0
 
 columns_there : (earlier : List SimplePlaced) (cat : Catalog) (line : ℕ) (table : Text) (items : List SimpleColumn) → IsMadeBy (earlier ++ record { line = line; statement = CreateTable table items } ∷ []) cat
     → (some : List SimpleColumn) → list_all (column_kept earlier table items) some ≡ true → list_all (λ item. reference_there (λ parent. is_some (referred parent cat)) item.constraint) some ≡ true
 columns_there earlier cat line table items made [] kept = refl
 columns_there earlier cat line table items made (item ∷ others) kept =
     let p = and_parts (column_kept earlier table items item) (list_all (column_kept earlier table items) others) kept in
-    let q = and_parts (is_name item.name) (constraint_kept earlier table items item.name item.constraint) p.0 in
-    and_from _ _ (constraint_there earlier cat line table items made item.name item.constraint q.1) (columns_there earlier cat line table items made others p.1)
+    and_from _ _ (constraint_there earlier cat line table items made item.name item.constraint p.0) (columns_there earlier cat line table items made others p.1)
 
 columns_of_kept : (earlier : List SimplePlaced) (table : Text) (items : List SimpleColumn) → create_kept earlier table items ≡ true → list_all (column_kept earlier table items) items ≡ true
 columns_of_kept earlier table items kept =
-    let first : Bool = is_name table && is_none (items_named earlier table) && nat_lt (length earlier) 64 && nat_le (length items) 32 && all_differ (map (λ item. item.name) items) in
+    let first : Bool = is_none (items_named earlier table) && nat_lt (length earlier) 64 && nat_le (length items) 32 && all_differ (map (λ item. item.name) items) in
     let a = and_parts (first && list_all (column_kept earlier table items) items && nat_le (primaries_in items) 1) (nat_le (references_before earlier + references_in items) 128) kept in
     let b = and_parts (first && list_all (column_kept earlier table items) items) (nat_le (primaries_in items) 1) a.0 in
     (and_parts first (list_all (column_kept earlier table items) items) b.0).1
@@ -490,9 +486,9 @@ some_not_none (Some x) = refl
 
 run_same : (earlier : List SimplePlaced) (cat : Catalog) → IsMadeBy earlier cat → (statement : SimpleStatement) → run_kept earlier statement ≡ can_run cat statement
 run_same earlier cat made (CreateTable table items) = refl
-run_same earlier cat made (Insert table rows) = ap (λ (fits : Bool). is_name table && fits) (sym (rows_same earlier cat made table rows))
-run_same earlier cat made (Delete table) = ap (λ (there : Bool). is_name table && there)
-    (some_not_none (items_named earlier table) ∙ (ap (λ (b : Bool). not b) (sym (none_same earlier cat made table)) ∙ sym (some_not_none (table_number table cat))))
+run_same earlier cat made (Insert table rows) = sym (rows_same earlier cat made table rows)
+run_same earlier cat made (Delete table) =
+    some_not_none (items_named earlier table) ∙ (ap (λ (b : Bool). not b) (sym (none_same earlier cat made table)) ∙ sym (some_not_none (table_number table cat)))
 run_same earlier cat made Begin = refl
 run_same earlier cat made Commit = refl
 run_same earlier cat made Rollback = refl

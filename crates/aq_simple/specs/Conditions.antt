@@ -51,11 +51,11 @@ abbrev pub constraint_kept : List SimplePlaced → Text → List SimpleColumn �
 constraint_kept earlier table items col None = true
 constraint_kept earlier table items col (Some PrimaryKey) = is_short (primary_key_name table)
 constraint_kept earlier table items col (Some (References parent decl)) =
-    is_name parent && has_primary (items_with earlier table items parent) && is_short (foreign_key_name table col)
+    has_primary (items_with earlier table items parent) && is_short (foreign_key_name table col)
 
--- a column has a name, and its constraint is kept
+-- the constraint of a column is kept
 abbrev pub column_kept : List SimplePlaced → Text → List SimpleColumn → SimpleColumn → Bool
-column_kept earlier table items item = is_name item.name && constraint_kept earlier table items item.name item.constraint
+column_kept earlier table items item = constraint_kept earlier table items item.name item.constraint
 
 -- the foreign keys that a statement makes
 abbrev pub statement_references : SimpleStatement → ℕ
@@ -73,7 +73,7 @@ references_before earlier = sum_by (λ placed. statement_references placed.state
 -- the table may be created after those before it: 64 tables, 32 columns and 128 foreign keys at the most, and one primary key
 abbrev pub create_kept : List SimplePlaced → Text → List SimpleColumn → Bool
 create_kept earlier table items =
-    is_name table && is_none (items_named earlier table) && nat_lt (length earlier) 64 && nat_le (length items) 32
+    is_none (items_named earlier table) && nat_lt (length earlier) 64 && nat_le (length items) 32
     && all_differ (map (λ item. item.name) items) && list_all (column_kept earlier table items) items
     && nat_le (primaries_in items) 1 && nat_le (references_before earlier + references_in items) 128
 
@@ -99,8 +99,8 @@ rows_kept (Some items) rows = list_all (λ (row : Row). length row == length ite
 -- a statement of a session runs on a setup: its table is there
 abbrev pub run_kept : List SimplePlaced → SimpleStatement → Bool
 run_kept setup (CreateTable table items) = false
-run_kept setup (Insert table rows) = is_name table && rows_kept (items_named setup table) rows
-run_kept setup (Delete table) = is_name table && is_some (items_named setup table)
+run_kept setup (Insert table rows) = rows_kept (items_named setup table) rows
+run_kept setup (Delete table) = is_some (items_named setup table)
 run_kept setup Begin = true
 run_kept setup Commit = true
 run_kept setup Rollback = true

@@ -117,9 +117,7 @@ fn constraint_kept(
         None => true,
         Some(SimpleConstraint::PrimaryKey) => primary_key_is_short(table),
         Some(SimpleConstraint::References { table: parent, .. }) => {
-            is_name(parent)
-                && has_primary(earlier, table, items, parent)
-                && foreign_key_is_short(table, col)
+            has_primary(earlier, table, items, parent) && foreign_key_is_short(table, col)
         }
     }
 }
@@ -132,7 +130,7 @@ fn column_kept(
 ) -> bool
     ensures { result ≡ column_kept earlier.now table.now items.now item.now }
 {
-    is_name(&item.name) && constraint_kept(earlier, table, items, &item.name, &item.constraint)
+    constraint_kept(earlier, table, items, &item.name, &item.constraint)
 }
 
 fn columns_kept(earlier: &[SimplePlaced], table: &TextVal, items: &List<SimpleColumn>) -> bool
@@ -195,8 +193,7 @@ fn references_before(earlier: &[SimplePlaced]) -> usize
 fn create_kept(earlier: &[SimplePlaced], table: &TextVal, items: &List<SimpleColumn>) -> bool
     ensures { result ≡ create_kept earlier.now table.now items.now }
 {
-    is_name(table)
-        && items_named(earlier, table).is_none()
+    items_named(earlier, table).is_none()
         && earlier.len() < 64
         && items.len() <= 32
         && names_differ(items.as_slice())
@@ -238,14 +235,11 @@ pub fn run_kept(setup: &[SimplePlaced], statement: &SimpleStatement) -> bool
 {
     match statement {
         SimpleStatement::CreateTable { .. } => false,
-        SimpleStatement::Insert { table, rows } => {
-            is_name(table)
-                && match items_named(setup, table) {
-                    None => false,
-                    Some(items) => rows_kept(items, rows.as_slice()),
-                }
-        }
-        SimpleStatement::Delete { table } => is_name(table) && items_named(setup, table).is_some(),
+        SimpleStatement::Insert { table, rows } => match items_named(setup, table) {
+            None => false,
+            Some(items) => rows_kept(items, rows.as_slice()),
+        },
+        SimpleStatement::Delete { table } => items_named(setup, table).is_some(),
         SimpleStatement::Begin | SimpleStatement::Commit | SimpleStatement::Rollback => true,
     }
 }
