@@ -16,6 +16,7 @@ mod lookups;
 mod mark;
 mod name_index;
 mod names;
+mod next_number;
 mod of_table;
 mod of_tables;
 mod old_new;

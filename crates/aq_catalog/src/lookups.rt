@@ -186,6 +186,22 @@ pub(crate) fn names_taken(
     }
 }
 
+fn has_constraint(made: &[Constraint], table: usize, name: &TextVal) -> bool
+    ensures { result ≡ list_any (λ c. c.table == table && same name.now c.name) made.now }
+{
+    made.iter().any(|con| usize::from(con.table.get()) == table && same_text(name, &con.name))
+}
+
+/// Whether a constraint of the table has the name.
+pub(crate) fn is_taken(catalog: &Catalog, table: Option<usize>, name: &TextVal) -> bool
+    ensures { result ≡ list_any (same name.now) (tables.names_taken catalog.now table) }
+{
+    match table {
+        None => false,
+        Some(table) => has_constraint(catalog.all_constraints(), table, name),
+    }
+}
+
 /// Whether there is a table with a primary key under a number.
 pub(crate) fn has_primary(catalog: &Catalog, table: Option<usize>) -> bool
     ensures { result ≡ tables.has_primary catalog.now table }

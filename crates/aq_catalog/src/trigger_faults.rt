@@ -13,13 +13,13 @@ ghost use Rattle.aq_setup.specs.Order.{in_order};
 ghost use Rattle.aq_setup.specs.Scopes as scopes;
 ghost use Rattle.aq_setup.specs.Scopes.{repeats};
 ghost use Rattle.aq_setup.specs.Binding as binding;
-ghost use Rattle.aq_setup.specs.Tables.{names_taken};
 ghost use Rattle.aq_setup.specs.Triggers as triggers;
 ghost use Rattle.aq_catalog.specs.Answers.{Tells};
 ghost use Rattle.aq_catalog.specs.TriggerLines.{trigger_named, constraint_named, when_of, missing, of_form, of_bodies};
 
 use crate::catalog::Catalog;
 use crate::fault::CatFault;
+use crate::lookups::is_taken;
 use crate::names::{column_at, table_faults};
 use crate::old_new::{uses_new, uses_old};
 use crate::refusals::{
@@ -31,7 +31,7 @@ use crate::scopes::{Setting, in_session, no_row};
 use crate::statements::{body_faults, condition_faults};
 use crate::wanted::Wanted;
 use aq_base::{Expr, Same, TextVal};
-use aq_bound::{Column, Constraint, Does, NativeName, Trigger};
+use aq_bound::{Column, Does, NativeName, Trigger};
 use std::alloc::Global;
 
 const MAX_TRIGGERS: usize = 256;
@@ -92,12 +92,6 @@ fn has_trigger(made: &[Trigger], table: usize, name: &TextVal) -> bool
     made.iter().any(|trigger| usize::from(trigger.table.get()) == table && name.same(&trigger.name))
 }
 
-fn has_constraint(made: &[Constraint], table: usize, name: &TextVal) -> bool
-    ensures { result ≡ list_any (λ c. c.table == table && same_text name.now c.name) made.now }
-{
-    made.iter().any(|con| usize::from(con.table.get()) == table && name.same(&con.name))
-}
-
 /// Whether a trigger of the table has the name.
 fn trigger_taken(catalog: &Catalog, table: Option<usize>, name: &TextVal) -> bool
     ensures { result ≡ list_any (same_text name.now) (triggers.triggers_taken catalog.now table) }
@@ -105,16 +99,6 @@ fn trigger_taken(catalog: &Catalog, table: Option<usize>, name: &TextVal) -> boo
     match table {
         None => false,
         Some(table) => has_trigger(catalog.all_triggers(), table, name),
-    }
-}
-
-/// Whether a constraint of the table has the name.
-fn constraint_taken(catalog: &Catalog, table: Option<usize>, name: &TextVal) -> bool
-    ensures { result ≡ list_any (same_text name.now) (names_taken catalog.now table) }
-{
-    match table {
-        None => false,
-        Some(table) => has_constraint(catalog.all_constraints(), table, name),
     }
 }
 
@@ -131,7 +115,7 @@ fn trigger_name_fault(alloc: Global, catalog: &Catalog, w: &Wanted<'_>) -> Resul
 fn constraint_name_fault(alloc: Global, catalog: &Catalog, w: &Wanted<'_>) -> Result<(), CatFault>
     ensures { Tells (constraint_named catalog.now w.now) result }
 {
-    if w.timing.is_some() && constraint_taken(catalog, catalog.table_at(w.table), w.name) {
+    if w.timing.is_some() && is_taken(catalog, catalog.table_at(w.table), w.name) {
         Err(constraint_exists(alloc, w.table, w.name))
     } else {
         Ok(())

@@ -4,7 +4,7 @@ use Rattle.aq_base.specs.Names.{same_text}
 use Rattle.aq_bound.specs.declared.catalog.Constraint.{Constraint}
 use Rattle.aq_setup.specs.Tables.{names_taken}
 use Rattle.aq_catalog.proofs.FirstFound.{any_of_images}
-use Rattle.aq_catalog.proofs.trigger_faults.constraint_taken.Goals as goal
+use Rattle.aq_catalog.proofs.lookups.is_taken.Goals as goal
 
 pub returns-in-Some : goal.returns-in-Some
 returns-in-Some c =
