@@ -9,7 +9,6 @@ pub mod Rows
 pub mod Shortening
 pub mod Telling
 pub mod KindForms
-pub mod KindLoops
 pub mod BoundAnswers
 pub mod BodyForms
 pub mod BoundBodies

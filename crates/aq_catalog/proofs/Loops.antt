@@ -27,3 +27,14 @@ mapped_fault_at g f xs i x e within is left told =
 
 pub first_mapped : {A : Type 0} (g : A → SqlFault) (front behind : List A) (e : CatFault) → IsFault (map g front) e → IsFault (map g (front ++ behind)) e
 first_mapped g front behind e told = subst (λ l. IsFault l e) (sym (map-append g front behind)) (first_stays (map g front) (map g behind) e told)
+
+-- the faults of what is left begin with those of the next element
+next_faults : {X : Type 0} (f : X → List SqlFault) (xs : List X) (k : ℕ) (x : X) → k < length xs → x ≡ get_or xs k x
+    → flat_map f (drop k xs) ≡ f x ++ flat_map f (drop (k + 1) xs)
+next_faults f xs k x within is = ap (flat_map f) (drop_more xs k x within ∙ ap (λ y. y ∷ drop (k + 1) xs) (sym is))
+
+-- an element without faults leaves them all to the others
+pub left_at : {X : Type 0} (f : X → List SqlFault) (xs : List X) (k : ℕ) (x : X) → k < length xs → x ≡ get_or xs k x
+    → flat_map f (drop k xs) ≡ flat_map f xs → f x ≡ [] → flat_map f (drop (k + 1) xs) ≡ flat_map f xs
+left_at f xs k x within is left none =
+    sym (next_faults f xs k x within is ∙ ap (λ (faults : List SqlFault). faults ++ flat_map f (drop (k + 1) xs)) none) ∙ left

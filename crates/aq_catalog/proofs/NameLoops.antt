@@ -43,26 +43,6 @@ walk_more step before (y ∷ xs) (suc n) x here is within none =
     ∙ walk_more step (before ++ y ∷ []) xs n x (ap (λ (l : List _). step l x) (append_assoc before (y ∷ []) (take n xs)) ∙ here) is (omega (arith, within))
     (behind_none (step before y) (faults_behind step (before ++ y ∷ []) (take n xs)) none)
 
--- ---- where an element's faults are its own
-
-each_is : {X : Type 0} (f : X → List SqlFault) (before xs : List X) → faults_behind (λ _ x. f x) before xs ≡ flat_map f xs
-each_is f before [] = refl
-each_is f before (x ∷ xs) = ap (λ (l : List SqlFault). f x ++ l) (each_is f (before ++ x ∷ []) xs)
-
-pub told_at : {X : Type 0} (f : X → List SqlFault) (xs : List X) (n : ℕ) (x : X) (e : CatFault)
-    → IsFault (f x) e → x ≡ get_or xs n x → n < length xs → flat_map f (take n xs) ≡ [] → IsFault (flat_map f xs) e
-told_at f xs n x e told is within none =
-    subst (λ (l : List SqlFault). IsFault l e) (each_is f [] xs) (walk_told (λ _ y. f y) [] xs n x e told is within (each_is f [] (take n xs) ∙ none))
-
-map_each : {X A B : Type 0} (f : A → B) (g : X → List A) (xs : List X) → map f (flat_map g xs) ≡ flat_map (λ x. map f (g x)) xs
-map_each f g [] = refl
-map_each f g (x ∷ xs) = map-append f (g x) (flat_map g xs) ∙ ap (λ (l : List _). map f (g x) ++ l) (map_each f g xs)
-
-pub mapped_told_at : {X A : Type 0} (f : A → SqlFault) (g : X → List A) (xs : List X) (n : ℕ) (x : X) (e : CatFault)
-    → IsFault (map f (g x)) e → x ≡ get_or xs n x → n < length xs → map f (flat_map g (take n xs)) ≡ [] → IsFault (map f (flat_map g xs)) e
-mapped_told_at f g xs n x e told is within none =
-    subst (λ (l : List SqlFault). IsFault l e) (sym (map_each f g xs)) (told_at (λ y. map f (g y)) xs n x e told is within (sym (map_each f g (take n xs)) ∙ none))
-
 pub walk_next : {X : Type 0} (step : List X → X → List SqlFault) (xs : List X) (n : ℕ) (x : X)
     → step (take n xs) x ≡ [] → x ≡ get_or xs n x → n < length xs → faults_behind step [] (take n xs) ≡ []
     → faults_behind step [] (take (n + 1) xs) ≡ []

@@ -1,9 +1,10 @@
 -- The first fault of lists that stand one behind the other.
-use Rattle.std.proofs.Common.{refl, ap, List, ◌∷◌, ◌++◌}
+use Rattle.std.proofs.Common.{◌≡◌, refl, ap, subst, List, ◌∷◌, ◌++◌}
+use Rattle.std.specs.Prelude.{Result}
 use Rattle.aq_base.specs.declared.fault.SqlFault.{SqlFault}
 use Rattle.aq_catalog.specs.declared.fault.CatFault.{CatFault}
 use Rattle.aq_catalog.specs.declared.fault.CatFault.TheVariants.{NoMemory, Sql}
-use Rattle.aq_catalog.specs.Answers.{IsFault}
+use Rattle.aq_catalog.specs.Answers.{IsFault, Tells}
 
 pub first_stays : (front behind : List SqlFault) (e : CatFault) → IsFault front e → IsFault (front ++ behind) e
 unfolding IsFault
@@ -17,3 +18,7 @@ memory_ran_out faults = tt
 pub fault_is_told : (fault : SqlFault) (others : List SqlFault) → IsFault (fault ∷ others) (Sql fault)
 unfolding IsFault
 fault_is_told fault others = (others, refl)
+
+-- the same faults are told
+pub same_told : {T : Type 0} (faults others : List SqlFault) (result : Result T CatFault) → faults ≡ others → Tells faults result → Tells others result
+same_told faults others result same told = subst (λ (l : List SqlFault). Tells l result) same told

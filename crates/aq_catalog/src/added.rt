@@ -17,11 +17,9 @@ use crate::catalog::Catalog;
 use crate::constraints::NamedConstraint;
 use crate::fault::CatFault;
 use crate::lookups::first_repeat;
-use crate::names::{column_at, table_faults};
+use crate::names::{columns_known, table_faults};
 use crate::references::{count_faults, key_faults, kind_faults, primary_faults};
-use crate::refusals::{
-    column_twice, constraint_exists, long_name, many_primary_keys, no_column, over_limit,
-};
+use crate::refusals::{column_twice, constraint_exists, long_name, many_primary_keys, over_limit};
 use crate::scopes::in_session;
 use aq_base::{Copies, List, Reference, TableConstraint, TextVal};
 use aq_bound::Column;
@@ -276,30 +274,12 @@ pub(crate) fn missing_parents(
     Ok(())
 }
 
-fn missing_column(alloc: Global, cols: &[Column], name: &TextVal) -> Result<(), CatFault>
-    ensures { Tells (map faults.no_column (unknown cols.now name.now)) result }
-{
-    match column_at(cols, name) {
-        None => Err(no_column(alloc, name)),
-        Some(_) => Ok(()),
-    }
-}
-
-fn missing_among(alloc: Global, cols: &[Column], names: &[TextVal]) -> Result<(), CatFault>
-    ensures { Tells (map faults.no_column (flat_map (unknown cols.now) names.now)) result }
-{
-    for name in names {
-        missing_column(alloc, cols, name)?;
-    }
-    Ok(())
-}
-
 fn missing_referred(alloc: Global, catalog: &Catalog, c: &TableConstraint) -> Result<(), CatFault>
     ensures { Tells (map faults.no_column (tables.referred_unknown catalog.now (constraints.reference_of c.now))) result }
 {
     match c {
         TableConstraint::PrimaryKey { .. } | TableConstraint::Unique { .. } => Ok(()),
-        TableConstraint::ForeignKey { reference, .. } => missing_among(
+        TableConstraint::ForeignKey { reference, .. } => columns_known(
             alloc,
             catalog.columns_of(&reference.table),
             columns_named(reference),
@@ -315,7 +295,7 @@ fn missing_of(
 ) -> Result<(), CatFault>
     ensures { Tells (map faults.no_column (tables.constraint_unknown catalog.now table.now n.now.constraint)) result }
 {
-    missing_among(
+    columns_known(
         alloc,
         catalog.columns_of(table),
         constrained_columns(&n.constraint),

@@ -7,7 +7,7 @@ ghost use Rattle.aq_bound.specs.declared.data.BoundSource.TheVariants.{Query};
 ghost use Rattle.aq_catalog.specs.Bodies.{bound_else_if as else_if_is};
 
 use crate::catalog::Catalog;
-use crate::names::column_at;
+use crate::lookups::{in_16_bits, number_of_column, number_of_table, numbers_of_columns};
 use crate::scopes::{Scope, Setting, is_text, no_row, query_scope, table_scope};
 use aq_base::{
     Assignment, BodyStatement, Boxed, ColNo, Columns, Copies, Delete, ElseIf, Expr, Given, Insert,
@@ -19,38 +19,18 @@ use aq_bound::{
 };
 use std::alloc::{AllocError, Global};
 
-/// A column's number. The error is want of memory for so many.
-pub(crate) fn column_no(at: usize) -> Result<ColNo, AllocError>
-    ensures { IfOk result (λ no. no ≡ at) }
-{
-    match u16::try_from(at) {
-        Ok(number) => Ok(ColNo::new(number)),
-        Err(_) => Err(AllocError),
-    }
-}
-
-/// A table's number. The error is want of memory for so many.
-pub(crate) fn table_no(at: usize) -> Result<TabNo, AllocError>
-    ensures { IfOk result (λ no. no ≡ at) }
-{
-    match u16::try_from(at) {
-        Ok(number) => Ok(TabNo::new(number)),
-        Err(_) => Err(AllocError),
-    }
-}
-
-/// The number of the column with a name, and 0 where there is none.
-pub(crate) fn number_of_column(cols: &[Column], name: &TextVal) -> Result<ColNo, AllocError>
+/// The number of the column with a name, and 0 where there is none. The error is that it has no room in 16 bits.
+fn bound_column(cols: &[Column], name: &TextVal) -> Result<ColNo, AllocError>
     ensures { IfOk result (λ no. no ≡ scopes.number_of_column cols.now name.now) }
 {
-    column_no(column_at(cols, name).unwrap_or(0))
+    Ok(ColNo::new(in_16_bits(number_of_column(cols, name))?))
 }
 
-/// The number of the table with a name, and 0 where there is none.
-pub(crate) fn number_of_table(catalog: &Catalog, name: &TextVal) -> Result<TabNo, AllocError>
+/// The number of the table with a name, and 0 where there is none. The error is that it has no room in 16 bits.
+pub(crate) fn bound_table(catalog: &Catalog, name: &TextVal) -> Result<TabNo, AllocError>
     ensures { IfOk result (λ no. no ≡ scopes.number_of_table catalog.now name.now) }
 {
-    table_no(catalog.table_at(name).unwrap_or(0))
+    Ok(TabNo::new(in_16_bits(number_of_table(catalog, name))?))
 }
 
 #[cycle(bound)]
@@ -74,12 +54,12 @@ pub(crate) fn bound_expression(
 {
     match e {
         Expr::Constant(value) => Ok(BoundExpr::Constant(value.copy()?)),
-        Expr::Column(column) => Ok(BoundExpr::Column(number_of_column(scope.cols, column)?)),
+        Expr::Column(column) => Ok(BoundExpr::Column(bound_column(scope.cols, column)?)),
         Expr::Qualified { column, .. } => {
-            Ok(BoundExpr::Column(number_of_column(scope.cols, column)?))
+            Ok(BoundExpr::Column(bound_column(scope.cols, column)?))
         }
-        Expr::Old(column) => Ok(BoundExpr::Old(number_of_column(scope.changed, column)?)),
-        Expr::New(column) => Ok(BoundExpr::New(number_of_column(scope.changed, column)?)),
+        Expr::Old(column) => Ok(BoundExpr::Old(bound_column(scope.changed, column)?)),
+        Expr::New(column) => Ok(BoundExpr::New(bound_column(scope.changed, column)?)),
         Expr::Operation => Ok(BoundExpr::Operation),
         Expr::Negate(operand) => Ok(BoundExpr::Negate(bound_operand(alloc, scope, operand)?)),
         Expr::Multiply(left, right) => Ok(BoundExpr::Multiply(
@@ -137,21 +117,6 @@ pub(crate) fn bound_condition(
         None => Ok(None),
         Some(e) => Ok(Some(bound_expression(alloc, scope, e)?)),
     }
-}
-
-/// The numbers of columns.
-pub(crate) fn numbers_of_columns(
-    alloc: Global,
-    cols: &[Column],
-    names: &[TextVal],
-) -> Result<List<ColNo>, AllocError>
-    ensures { IfOk result (λ made. made ≡ map (scopes.number_of_column cols.now) names.now) }
-{
-    let mut made = List::new(alloc);
-    for name in names {
-        made.push(number_of_column(cols, name)?)?;
-    }
-    Ok(made)
 }
 
 fn bound_given(alloc: Global, scope: &Scope<'_>, given: &Given) -> Result<BoundGiven, AllocError>
@@ -213,7 +178,7 @@ fn bound_from(setting: &Setting<'_>, name: &TextVal) -> Result<BoundFrom, AllocE
     } else if is_text(setting.new_table, name) {
         Ok(BoundFrom::NewTable)
     } else {
-        Ok(BoundFrom::Table(number_of_table(setting.catalog, name)?))
+        Ok(BoundFrom::Table(bound_table(setting.catalog, name)?))
     }
 }
 
@@ -284,7 +249,7 @@ pub(crate) fn bound_insert(
     ensures { IfOk result (λ made. made ≡ binding.bound_insert setting.now s.now) }
 {
     Ok(BoundInsert {
-        table: number_of_table(setting.catalog, &s.table)?,
+        table: bound_table(setting.catalog, &s.table)?,
         columns: bound_targets(alloc, setting.catalog.columns_of(&s.table), &s.columns)?,
         source: bound_source(alloc, setting, &s.source)?,
     })
@@ -298,7 +263,7 @@ fn bound_assignment(
     ensures { IfOk result (λ made. made ≡ binding.bound_assignment scope.now assignment.now) }
 {
     Ok(BoundAssignment {
-        column: number_of_column(scope.cols, &assignment.column)?,
+        column: bound_column(scope.cols, &assignment.column)?,
         value: bound_given(alloc, scope, &assignment.value)?,
     })
 }
@@ -326,7 +291,7 @@ pub(crate) fn bound_update(
 {
     let scope = table_scope(setting, &s.table);
     Ok(BoundUpdate {
-        table: number_of_table(setting.catalog, &s.table)?,
+        table: bound_table(setting.catalog, &s.table)?,
         assignments: bound_assignments(alloc, &scope, s.assignments.as_slice())?,
         condition: bound_condition(alloc, &scope, &s.condition)?,
     })
@@ -340,7 +305,7 @@ pub(crate) fn bound_delete(
     ensures { IfOk result (λ made. made ≡ binding.bound_delete setting.now s.now) }
 {
     Ok(BoundDelete {
-        table: number_of_table(setting.catalog, &s.table)?,
+        table: bound_table(setting.catalog, &s.table)?,
         condition: bound_condition(alloc, &table_scope(setting, &s.table), &s.condition)?,
     })
 }
@@ -371,7 +336,7 @@ pub(crate) fn bound_select(
 {
     Ok(BoundSelect {
         columns: bound_columns(alloc, setting.catalog.columns_of(&s.table), &s.columns)?,
-        table: number_of_table(setting.catalog, &s.table)?,
+        table: bound_table(setting.catalog, &s.table)?,
         condition: bound_condition(alloc, &table_scope(setting, &s.table), &s.condition)?,
         lock: s.lock,
     })

@@ -356,7 +356,7 @@ fn row_kinds<T: Target>(
     Ok(())
 }
 
-#[tactic(auto, using(crate::proofs::KindLoops::told_at, crate::proofs::KindLoops::left_at))]
+#[tactic(auto, using(crate::proofs::Loops::fault_at, crate::proofs::Loops::left_at))]
 fn rows_kinds<T: Target>(
     alloc: Global,
     scope: &Scope<'_>,
@@ -459,7 +459,7 @@ pub(crate) fn insert_kinds(alloc: Global, setting: &Setting<'_>, s: &Insert) -> 
     kinds_into(alloc, setting, cols, &s.columns, &s.source)
 }
 
-#[tactic(auto, using(crate::proofs::KindLoops::told_at, crate::proofs::KindLoops::left_at))]
+#[tactic(auto, using(crate::proofs::Loops::fault_at, crate::proofs::Loops::left_at))]
 fn assignments_kinds(
     alloc: Global,
     scope: &Scope<'_>,

@@ -1,4 +1,5 @@
 //! The faults of the names in a statement, from left to right (PostgreSQL source, parse_relation.c, parse_target.c).
+#![tactic(auto, using(crate::proofs::Telling::first_stays, crate::proofs::Telling::memory_ran_out, crate::proofs::Telling::fault_is_told, crate::proofs::Loops::fault_at, crate::proofs::Loops::mapped_fault_at))]
 
 ghost use Rattle.std.specs.Prelude.{◌≡◌, [], ◌∷◌, ◌++◌, map};
 ghost use Rattle.std.specs.List.{flat_map, list_any};
@@ -12,6 +13,7 @@ ghost use Rattle.aq_catalog.specs.Answers.{Tells};
 ghost use Rattle.aq_catalog.specs.Repeating.{repeated, column_faults};
 
 use crate::fault::CatFault;
+use crate::lookups::is_in;
 use crate::refusals::{column_twice, no_column, no_relation, no_target};
 use crate::scopes::{
     Scope, Setting, is_transition, no_row, qualified_cols, query_scope, table_scope,
@@ -115,18 +117,11 @@ fn target(alloc: Global, table: &TextVal, cols: &[Column], column: &TextVal) -> 
     }
 }
 
-/// Whether a name is among others.
-fn is_among(names: &[TextVal], name: &TextVal) -> bool
-    ensures { result ≡ list_any (same_text name.now) names.now }
-{
-    names.iter().any(|other| name.same(other))
-}
-
 /// A target column that stands before, too.
 fn named_before(alloc: Global, before: &[TextVal], column: &TextVal) -> Result<(), CatFault>
     ensures { Tells (repeated faults.column_twice before.now column.now) result }
 {
-    if is_among(before, column) {
+    if is_in(before, column) {
         return Err(column_twice(alloc, column));
     }
     Ok(())
@@ -308,7 +303,12 @@ pub(crate) fn delete_names<'a>(
     condition_names(alloc, &table_scope(setting, &s.table), &s.condition)
 }
 
-fn columns_known(alloc: Global, cols: &[Column], columns: &[TextVal]) -> Result<(), CatFault>
+/// Columns that are not there, in the order of the text.
+pub(crate) fn columns_known(
+    alloc: Global,
+    cols: &[Column],
+    columns: &[TextVal],
+) -> Result<(), CatFault>
     ensures { Tells (map faults.no_column (flat_map (names.unknown cols.now) columns.now)) result }
 {
     'columns: for column in columns {

@@ -3,8 +3,8 @@
 
 ghost use Rattle.std.specs.Prelude.{◌≡◌, ◌||◌, [], ◌∷◌, ◌++◌, Some, Ok, if◌then◌else◌, is_some, length, IfOk, IfErr, OnOk, OnErr};
 ghost use Rattle.std.specs.List.{flat_map};
-ghost use Rattle.std.specs.Option.{option_copied};
-ghost use Rattle.aq_setup.specs.Catalogs.{function_named, native_named};
+ghost use Rattle.aq_setup.specs.Catalogs as catalogs;
+ghost use Rattle.aq_setup.specs.Catalogs.{function_named};
 ghost use Rattle.aq_setup.specs.Faults as faults;
 ghost use Rattle.aq_setup.specs.Names.{table_faults as absent};
 ghost use Rattle.aq_setup.specs.Order.{in_order};
@@ -32,10 +32,11 @@ use crate::tables::{
     column_limit, declared_columns, declared_table, defaults_fit, items_twice, table_exists,
     table_limit,
 };
+use crate::trigger_faults::native_named;
 use crate::wanted::{constraint_trigger, plain_trigger};
 use aq_base::{
     AlterTable, Copies, CreateConstraintTrigger, CreateFunction, CreateTable, CreateTrigger, List,
-    Same, Statement, TableConstraint, TextVal,
+    Statement, TableConstraint, TextVal,
 };
 use aq_bound::{Function, NativeName, Table};
 use std::alloc::{AllocError, Global};
@@ -456,16 +457,10 @@ impl Catalog {
     }
 }
 
-fn native<'a>(natives: &'a [NativeName], name: &TextVal) -> Option<&'a NativeName>
-    ensures { option_copied result ≡ native_named natives.now name.now }
-{
-    natives.iter().find(|native| native.name.same(name))
-}
-
 fn is_native(natives: &[NativeName], name: &TextVal) -> bool
-    ensures { result ≡ is_some (native_named natives.now name.now) }
+    ensures { result ≡ is_some (catalogs.native_named natives.now name.now) }
 {
-    native(natives, name).is_some()
+    native_named(natives, name).is_some()
 }
 
 fn is_function(catalog: &Catalog, name: &TextVal) -> bool
@@ -480,7 +475,7 @@ fn is_free(
     natives: &[NativeName],
     name: &TextVal,
 ) -> Result<(), CatFault>
-    ensures { Tells (if is_some (function_named catalog.now name.now) || is_some (native_named natives.now name.now) then faults.function_exists name.now ∷ [] else []) result }
+    ensures { Tells (if is_some (function_named catalog.now name.now) || is_some (catalogs.native_named natives.now name.now) then faults.function_exists name.now ∷ [] else []) result }
 {
     if is_function(catalog, name) || is_native(natives, name) {
         Err(function_exists(alloc, name))

@@ -124,7 +124,7 @@ fn set_name_faults(
     set_found(alloc, catalog, mode, name, found.as_slice())
 }
 
-#[tactic(auto, using(crate::proofs::KindLoops::told_at, crate::proofs::KindLoops::left_at))]
+#[tactic(auto, using(crate::proofs::Loops::fault_at, crate::proofs::Loops::left_at))]
 fn set_names_faults(
     alloc: Global,
     catalog: &Catalog,
@@ -194,7 +194,7 @@ fn if_condition(alloc: Global, setting: &Setting<'_>, e: &Expr) -> Result<(), Ca
 
 /// The faults of the statements of a body, in the order of the text.
 #[cycle(body_faults)]
-#[tactic(auto, using(crate::proofs::KindLoops::told_at, crate::proofs::KindLoops::left_at))]
+#[tactic(auto, using(crate::proofs::Loops::fault_at, crate::proofs::Loops::left_at))]
 pub(crate) fn body_faults(
     alloc: Global,
     setting: &Setting<'_>,
@@ -217,7 +217,7 @@ fn else_if_faults(alloc: Global, setting: &Setting<'_>, branch: &ElseIf) -> Resu
 }
 
 #[cycle(body_faults)]
-#[tactic(auto, using(crate::proofs::KindLoops::told_at, crate::proofs::KindLoops::left_at))]
+#[tactic(auto, using(crate::proofs::Loops::fault_at, crate::proofs::Loops::left_at))]
 fn else_ifs_faults(
     alloc: Global,
     setting: &Setting<'_>,

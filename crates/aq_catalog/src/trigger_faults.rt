@@ -20,11 +20,11 @@ ghost use Rattle.aq_catalog.specs.TriggerLines.{trigger_named, constraint_named,
 use crate::catalog::Catalog;
 use crate::fault::CatFault;
 use crate::lookups::is_taken;
-use crate::names::{column_at, table_faults};
+use crate::names::{columns_known, table_faults};
 use crate::old_new::{uses_new, uses_old};
 use crate::refusals::{
-    column_twice, constraint_exists, native_misused, no_column, no_function, no_new_table,
-    no_old_or_new, no_old_table, over_limit, transition_columns, transition_events, trigger_exists,
+    column_twice, constraint_exists, native_misused, no_function, no_new_table, no_old_or_new,
+    no_old_table, over_limit, transition_columns, transition_events, trigger_exists,
     trigger_reserved,
 };
 use crate::scopes::{Setting, in_session, no_row};
@@ -148,18 +148,8 @@ fn columns_twice(alloc: Global, names: &[TextVal]) -> Result<(), CatFault>
     Ok(())
 }
 
-fn unknown_columns(alloc: Global, cols: &[Column], names: &[TextVal]) -> Result<(), CatFault>
-    ensures { Tells (map faults.no_column (flat_map (unknown cols.now) names.now)) result }
-{
-    for name in names {
-        if column_at(cols, name).is_none() {
-            return Err(no_column(alloc, name));
-        }
-    }
-    Ok(())
-}
-
-fn native_named<'a>(natives: &'a [NativeName], name: &TextVal) -> Option<&'a NativeName>
+/// The native check of a name.
+pub(crate) fn native_named<'a>(natives: &'a [NativeName], name: &TextVal) -> Option<&'a NativeName>
     ensures { option_copied result ≡ catalogs.native_named natives.now name.now }
 {
     natives.iter().find(|native| native.name.same(name))
@@ -330,7 +320,7 @@ fn missing_columns(
 ) -> Result<(), CatFault>
     ensures { Tells (map faults.no_column (flat_map (unknown (catalogs.table_columns catalog.now w.now.table)) columns.now)) result }
 {
-    unknown_columns(alloc, catalog.columns_of(w.table), columns)
+    columns_known(alloc, catalog.columns_of(w.table), columns)
 }
 
 /// What is not there: the table, the columns of UPDATE OF, the function.

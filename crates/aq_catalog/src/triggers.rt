@@ -10,25 +10,16 @@ ghost use Rattle.aq_setup.specs.Order.{in_order};
 ghost use Rattle.aq_catalog.specs.Answers.{Tells};
 ghost use Rattle.aq_catalog.specs.TriggerLines.{constraint_of};
 
-use crate::binding::{bound_body, bound_condition, number_of_table, numbers_of_columns};
+use crate::binding::{bound_body, bound_condition, bound_table};
 use crate::catalog::Catalog;
 use crate::fault::CatFault;
+use crate::lookups::{in_16_bits, numbers_of_columns};
 use crate::scopes::no_row;
 use crate::trigger_faults::{trigger_faults, trigger_setting};
 use crate::wanted::Wanted;
 use aq_base::{ColNo, ConNo, Copies, Decl, Expr, List, TabNo, TextVal};
 use aq_bound::{BoundExpr, Column, Constraint, Does, NativeName, Trigger};
 use std::alloc::{AllocError, Global};
-
-/// A constraint's number. The error is want of memory for so many.
-fn constraint_no(at: usize) -> Result<ConNo, AllocError>
-    ensures { IfOk result (λ no. no ≡ at) }
-{
-    match u16::try_from(at) {
-        Ok(number) => Ok(ConNo::new(number)),
-        Err(_) => Err(AllocError),
-    }
-}
 
 /// A function's body, or else the native check of that name.
 fn does_of(alloc: Global, catalog: &Catalog, w: &Wanted<'_>) -> Result<Does, AllocError>
@@ -50,7 +41,7 @@ fn constraint_of_trigger(catalog: &Catalog, w: &Wanted<'_>) -> Result<Option<Con
 {
     match w.timing {
         None => Ok(None),
-        Some(_) => Ok(Some(constraint_no(catalog.constraints.len())?)),
+        Some(_) => Ok(Some(ConNo::new(in_16_bits(catalog.constraints.len())?))),
     }
 }
 
@@ -72,7 +63,7 @@ fn name_of(w: &Wanted<'_>) -> Result<TextVal, AllocError>
 fn table_of(catalog: &Catalog, w: &Wanted<'_>) -> Result<TabNo, AllocError>
     ensures { IfOk result (λ made. made ≡ scopes.number_of_table catalog.now w.now.table) }
 {
-    number_of_table(catalog, w.table)
+    bound_table(catalog, w.table)
 }
 
 fn cols_of(alloc: Global, catalog: &Catalog, w: &Wanted<'_>) -> Result<List<ColNo>, AllocError>

@@ -5,7 +5,7 @@ use Rattle.aq_base.specs.declared.expr.Expr.{Expr}
 use Rattle.aq_setup.specs.Scopes.{Scope}
 use Rattle.aq_setup.specs.Kinds.{query_kinds, where_kinds, source_kinds}
 use Rattle.aq_catalog.specs.Targets.{targets_of}
-use Rattle.aq_catalog.proofs.KindLoops.{same_told}
+use Rattle.aq_catalog.proofs.Telling.{same_told}
 use Rattle.aq_catalog.proofs.kinds.source_kinds.Goals as goal
 
 pub returns-in-Query : goal.returns-in-Query

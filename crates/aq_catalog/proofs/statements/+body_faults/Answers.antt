@@ -4,7 +4,7 @@ use Rattle.std.specs.List.{flat_map}
 use Rattle.aq_setup.specs.Binding.{body_faults}
 use Rattle.aq_catalog.specs.Answers.{IsFault}
 use Rattle.aq_catalog.specs.BodyFaults.{faults_in, else_if_faults}
-use Rattle.aq_catalog.proofs.KindLoops.{same_told}
+use Rattle.aq_catalog.proofs.Telling.{same_told}
 use Rattle.aq_catalog.proofs.BodyForms.{if_condition, last_faults, if_condition_told, if_then_told, if_others_told, if_last_told, if_none_told, branch_condition_told, branch_then_told}
 use Rattle.aq_catalog.proofs.statements.+body_faults.Goals as goal
 

@@ -1,7 +1,7 @@
 use Rattle.std.proofs.Common.{ap, ◌∙◌, codes}
 use Rattle.aq_setup.specs.Scopes.{Setting, Scope, no_row}
 use Rattle.aq_setup.specs.Binding.{condition_faults}
-use Rattle.aq_catalog.proofs.KindLoops.{same_told}
+use Rattle.aq_catalog.proofs.Telling.{same_told}
 use Rattle.aq_catalog.proofs.statements.if_condition.Goals as goal
 
 pub returns : goal.returns

@@ -1,7 +1,7 @@
 use Rattle.std.proofs.Common.{ap, sym, ◌∙◌}
 use Rattle.aq_setup.specs.Scopes.{Setting}
 use Rattle.aq_setup.specs.Binding.{delete_faults, select_faults, statement_faults}
-use Rattle.aq_catalog.proofs.KindLoops.{same_told}
+use Rattle.aq_catalog.proofs.Telling.{same_told}
 use Rattle.aq_catalog.proofs.statements.statement_faults.Goals as goal
 
 pub returns-in-Delete : goal.returns-in-Delete

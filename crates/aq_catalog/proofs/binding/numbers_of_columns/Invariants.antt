@@ -1,6 +1,0 @@
-use Rattle.std.proofs.Common.{◌≡◌, map, take}
-use Rattle.aq_setup.specs.Scopes.{number_of_column}
-use Rattle.aq_catalog.proofs.binding.numbers_of_columns.Given as goal
-
-abbrev pub invariant-loop-name : goal.invariant-loop-name
-invariant-loop-name l = l.made ≡ map (number_of_column l.cols) (take l.name-index l.names)
