@@ -34,3 +34,6 @@ mod wanted;
 pub use building::{BuildFault, build};
 pub use catalog::Catalog;
 pub use fault::CatFault;
+
+#[cfg(test)]
+mod tests;
