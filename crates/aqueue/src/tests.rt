@@ -411,9 +411,11 @@ fn a_table_that_refers_to_itself(rt: HostRuntime) -> Result<(), Fail> {
 
 #[test]
 fn names_between_quotes(rt: HostRuntime) -> Result<(), Fail> {
-    let script = "\\setup CREATE TABLE Zed (\"a\"\"b\" integer PRIMARY KEY, \"--\" integer REFERENCES zed, X$ integer);
+    let script =
+        "\\setup CREATE TABLE Zed (\"a\"\"b\" integer PRIMARY KEY, \"--\" integer REFERENCES zed, X$ integer);
 \\session a INSERT INTO zed VALUES (1, 2, 5); DELETE FROM \"zed\";";
-    let text = "a.1: ERROR 23503 insert or update on table \"zed\" violates foreign key constraint \"zed_--_fkey\"
+    let text =
+        "a.1: ERROR 23503 insert or update on table \"zed\" violates foreign key constraint \"zed_--_fkey\"
 a.1: DETAIL Key (--)=(2) is not present in table \"zed\".
 a.2: DELETE 0
 table zed (\"a\"\"b\", \"--\", x$)
