@@ -4,4 +4,7 @@
 
 for size in 1024 8192 65536; do speed check bodies "$size"; done
 for size in 1024 8192 65400; do speed check functions "$size"; done
-for size in 1024 4096 16384; do speed check keys "$size"; done
+for shape in keys defaults constraints; do
+    for size in 1024 8192 65000; do speed check "$shape" "$size"; done
+done
+for size in 1024 32768 1048576; do speed check columns "$size"; done

@@ -7,7 +7,10 @@ open        one expression of so many parentheses that are never closed
 ifs         a function with so many IFs open
 bodies      a trigger whose function has so many statements, over 64 tables of 32 columns
 functions   so many functions, and 64 triggers that name the last of them
-keys        so many unique keys of one table, each added by a statement
+keys        so many unique keys of one table, each added by a statement that names it
+defaults    the same with names by default
+constraints a table with so many unique keys with names by default, all in one statement
+columns     a unique key over so many columns, none of which is there
 
 The last statement of the first two is refused, so that nothing is run.
 """
@@ -76,6 +79,30 @@ def keys(size):
     return "\\setup\nCREATE TABLE t0 (c0 integer);\n" + "".join("ALTER TABLE t0 ADD CONSTRAINT k%d UNIQUE (c0);\n" % n for n in range(size))
 
 
-SHAPES = {"statements": statements, "bytes": in_bytes, "nested": nested, "open": opened, "ifs": ifs, "bodies": bodies, "functions": functions, "keys": keys}
+def defaults(size):
+    return "\\setup\nCREATE TABLE t0 (c0 integer);\n" + "ALTER TABLE t0 ADD UNIQUE (c0);\n" * size
+
+
+def constraints(size):
+    return "\\setup\nCREATE TABLE t0 (c0 integer" + ", UNIQUE (c0)" * size + ");\n"
+
+
+def columns(size):
+    return "\\setup\nCREATE TABLE t0 (c0 integer, UNIQUE (" + ", ".join("d%d" % n for n in range(size)) + "));\n"
+
+
+SHAPES = {
+    "statements": statements,
+    "bytes": in_bytes,
+    "nested": nested,
+    "open": opened,
+    "ifs": ifs,
+    "bodies": bodies,
+    "functions": functions,
+    "keys": keys,
+    "defaults": defaults,
+    "constraints": constraints,
+    "columns": columns,
+}
 
 sys.stdout.write(SHAPES[sys.argv[1]](int(sys.argv[2])))
