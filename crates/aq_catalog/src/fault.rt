@@ -13,7 +13,7 @@ pub enum CatFault {
     /// Memory ran out.
     #[error("out of memory")]
     NoMemory,
-    /// The statement names what is not there, or is at odds with what is.
+    /// The statement names what is not there, or contradicts what is there.
     #[error("refused")]
     Sql(SqlFault),
 }

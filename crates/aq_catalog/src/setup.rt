@@ -274,9 +274,9 @@ impl Catalog {
         ensures made { OnOk result (self.new ≡ tables.with_added (tables.created self.old s.now)) }
         ensures kept { IsBehind self.old self.new }
     {
-        let table = declared_table(alloc, s)?;
         let all = created_constraints(alloc, self, s)?;
         create_first(alloc, self, s, all.as_slice())?;
+        let table = declared_table(alloc, s)?;
         self.put_table(alloc, s, table, all.as_slice())?;
         Ok(())
     }
@@ -435,7 +435,8 @@ impl Catalog {
         }
     }
 
-    /// Makes what a statement of a setup says. Where it is refused, or memory runs out, the catalog is as it was.
+    /// Makes what a statement of a setup says. Where it is refused, or memory runs out, the catalog is as it was. A statement of a session
+    /// makes nothing.
     pub fn define(
         &mut self,
         alloc: Global,

@@ -321,7 +321,8 @@ fn bound(alloc: Global, catalog: &Catalog, s: &Statement) -> Result<Bound, Alloc
 }
 
 impl Catalog {
-    /// What a statement of a session says once its names are numbers, or the first of its faults.
+    /// What a statement of a session says once its names are numbers, or the first of its faults. One of the setup, which is none of a
+    /// session, is as COMMIT.
     #[tactic(auto, using(crate::proofs::BoundAnswers::fault_refused, crate::proofs::BoundAnswers::memory_refused, crate::proofs::BoundAnswers::none_refused))]
     pub fn bind(&self, alloc: Global, s: &Statement) -> Result<Bound, CatFault>
         ensures { IsAnswer (binding.bind self.now s.now) result }

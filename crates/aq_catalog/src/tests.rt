@@ -1,25 +1,51 @@
-//! Statements bound over small catalogs.
+//! Statements bound over a catalog of two tables.
 
 use crate::catalog::Catalog;
 use crate::fault::CatFault;
-use aq_base::{CreateTable, Delete, Kind, List, Statement, TableItem, TextVal};
-use aq_bound::Bound;
+use aq_base::{
+    Assignment, Boxed, ColNo, ColumnConstraint, Columns, ConNo, ConstraintMode, Constraints,
+    CreateTable, Delete, Expr, Given, Insert, Kind, List, Select, SetConstraints, Source,
+    Statement, TableItem, TextVal, Update, Value,
+};
+use aq_bound::{Bound, BoundColumns, BoundConstraints, BoundExpr, BoundGiven, BoundSource};
 use std::alloc::{AllocError, Global};
 use std::test::*;
 
-/// `CREATE TABLE table (id integer)`
-fn table_of_one_column(alloc: Global, table: &str) -> Result<Statement, AllocError> {
-    let id = TableItem::Column {
-        name: TextVal::new(alloc, "id")?,
+/// `a integer, b integer UNIQUE`
+fn two_columns(alloc: Global) -> Result<List<TableItem>, AllocError> {
+    let mut unique = List::new(alloc);
+    unique.push(ColumnConstraint::Unique { name: None })?;
+    let mut items = List::new(alloc);
+    items.push(TableItem::Column {
+        name: TextVal::new(alloc, "a")?,
         kind: Kind::Integer,
         constraints: List::new(alloc),
-    };
-    let mut items = List::new(alloc);
-    items.push(id)?;
+    })?;
+    items.push(TableItem::Column {
+        name: TextVal::new(alloc, "b")?,
+        kind: Kind::Integer,
+        constraints: unique,
+    })?;
+    Ok(items)
+}
+
+/// `CREATE TABLE table (a integer, b integer UNIQUE)`
+fn create_table(alloc: Global, table: &str) -> Result<Statement, AllocError> {
     Ok(Statement::CreateTable(CreateTable {
         table: TextVal::new(alloc, table)?,
-        items,
+        items: two_columns(alloc)?,
     }))
+}
+
+/// Whether tables p and c could be made.
+fn are_made(alloc: Global, catalog: &mut Catalog, p: &Statement, c: &Statement) -> bool {
+    catalog.define(alloc, p, &[]).is_ok() && catalog.define(alloc, c, &[]).is_ok()
+}
+
+fn name_alone(alloc: Global, name: &str) -> Result<List<TextVal>, AllocError> {
+    let mut names = List::new(alloc);
+    names.push(TextVal::new(alloc, name)?)?;
+    Ok(names)
 }
 
 /// `DELETE FROM table`
@@ -30,43 +56,231 @@ fn delete_from(alloc: Global, table: &str) -> Result<Statement, AllocError> {
     }))
 }
 
-/// The number of the table that a bound DELETE is of.
-fn table_of_delete(answer: &Result<Bound, CatFault>) -> Option<u16> {
-    match answer {
-        Ok(Bound::Delete(delete)) => Some(delete.table.get()),
-        _ => None,
-    }
+/// `INSERT INTO c (b) VALUES (7)`
+fn insert_into_c(alloc: Global) -> Result<Statement, AllocError> {
+    let mut row = List::new(alloc);
+    row.push(Given::Value(Expr::Constant(Value::Int(7))))?;
+    let mut rows = List::new(alloc);
+    rows.push(row)?;
+    Ok(Statement::Insert(Insert {
+        table: TextVal::new(alloc, "c")?,
+        columns: Some(name_alone(alloc, "b")?),
+        source: Source::Values(rows),
+    }))
 }
 
+/// `UPDATE c SET b = DEFAULT WHERE column IS NULL`
+fn update_c(alloc: Global, column: &str) -> Result<Statement, AllocError> {
+    let mut assignments = List::new(alloc);
+    assignments.push(Assignment {
+        column: TextVal::new(alloc, "b")?,
+        value: Given::Default,
+    })?;
+    let column = Boxed::new(alloc, Expr::Column(TextVal::new(alloc, column)?))?;
+    Ok(Statement::Update(Update {
+        table: TextVal::new(alloc, "c")?,
+        assignments,
+        condition: Some(Expr::IsNull(column)),
+    }))
+}
+
+/// `SELECT b FROM c`
+fn select_from_c(alloc: Global) -> Result<Statement, AllocError> {
+    Ok(Statement::Select(Select {
+        columns: Columns::Named(name_alone(alloc, "b")?),
+        table: TextVal::new(alloc, "c")?,
+        condition: None,
+        lock: None,
+    }))
+}
+
+/// `SET CONSTRAINTS name IMMEDIATE`
+fn set_constraints(alloc: Global, name: &str) -> Result<Statement, AllocError> {
+    Ok(Statement::SetConstraints(SetConstraints {
+        constraints: Constraints::Named(name_alone(alloc, name)?),
+        mode: ConstraintMode::Immediate,
+    }))
+}
+
+type Answer = Result<Bound, CatFault>;
+
 /// The message of a refusal.
-fn refusal(answer: &Result<Bound, CatFault>) -> Option<&[u8]> {
+fn refusal(answer: &Answer) -> Option<&[u8]> {
     match answer {
         Err(CatFault::Sql(fault)) => Some(fault.text.bytes()),
         _ => None,
     }
 }
 
+fn is_delete_of_c(answer: &Answer) -> bool {
+    match answer {
+        Ok(Bound::Delete(delete)) => delete.table.get() == 1 && delete.condition.is_none(),
+        _ => false,
+    }
+}
+
+fn is_second_column(columns: &[ColNo]) -> bool {
+    match columns {
+        [column] => column.get() == 1,
+        _ => false,
+    }
+}
+
+fn is_seven(given: &BoundGiven) -> bool {
+    matches!(given, BoundGiven::Value(BoundExpr::Constant(Value::Int(7))))
+}
+
+fn is_row_of_seven(source: &BoundSource) -> bool {
+    match source {
+        BoundSource::Values(rows) => match rows.as_slice() {
+            [row] => row.as_slice().len() == 1
+                && row.as_slice().iter().all(|given| is_seven(given)),
+            _ => false,
+        },
+        BoundSource::Query { .. } => false,
+    }
+}
+
+fn is_insert_into_c(answer: &Answer) -> bool {
+    match answer {
+        Ok(Bound::Insert(insert)) => match &insert.columns {
+            Some(columns) => {
+                insert.table.get() == 1
+                    && is_second_column(columns.as_slice())
+                    && is_row_of_seven(&insert.source)
+            }
+            None => false,
+        },
+        _ => false,
+    }
+}
+
+fn is_first_column_null(condition: &Option<BoundExpr>) -> bool {
+    match condition {
+        Some(BoundExpr::IsNull(operand)) => match operand.get() {
+            BoundExpr::Column(column) => column.get() == 0,
+            _ => false,
+        },
+        _ => false,
+    }
+}
+
+fn is_update_of_c(answer: &Answer) -> bool {
+    match answer {
+        Ok(Bound::Update(update)) => match update.assignments.as_slice() {
+            [assignment] => {
+                update.table.get() == 1
+                    && assignment.column.get() == 1
+                    && matches!(assignment.value, BoundGiven::Default)
+                    && is_first_column_null(&update.condition)
+            }
+            _ => false,
+        },
+        _ => false,
+    }
+}
+
+fn is_select_from_c(answer: &Answer) -> bool {
+    match answer {
+        Ok(Bound::Select(select)) => match &select.columns {
+            BoundColumns::Named(columns) => {
+                select.table.get() == 1 && is_second_column(columns.as_slice())
+            }
+            BoundColumns::All => false,
+        },
+        _ => false,
+    }
+}
+
+fn is_second_constraint(constraints: &[ConNo]) -> bool {
+    match constraints {
+        [constraint] => constraint.get() == 1,
+        _ => false,
+    }
+}
+
+fn is_set_of_second(answer: &Answer) -> bool {
+    match answer {
+        Ok(Bound::SetConstraints(set)) => match &set.constraints {
+            BoundConstraints::Named(found) => match found.as_slice() {
+                [constraints] => {
+                    set.mode == ConstraintMode::Immediate
+                        && is_second_constraint(constraints.as_slice())
+                }
+                _ => false,
+            },
+            BoundConstraints::All => false,
+        },
+        _ => false,
+    }
+}
+
 #[test]
-fn a_delete_is_bound_to_the_number_of_its_table(rt: HostRuntime) -> Result<(), Fail> {
-    let first = table_of_one_column(rt.alloc(), "p")?;
-    let second = table_of_one_column(rt.alloc(), "c")?;
+fn each_form_is_bound_to_numbers(rt: HostRuntime) -> Result<(), Fail> {
+    let p = create_table(rt.alloc(), "p")?;
+    let c = create_table(rt.alloc(), "c")?;
     let delete = delete_from(rt.alloc(), "c")?;
+    let insert = insert_into_c(rt.alloc())?;
+    let update = update_c(rt.alloc(), "a")?;
+    let select = select_from_c(rt.alloc())?;
+    let set = set_constraints(rt.alloc(), "c_b_key")?;
     let mut catalog = Catalog::new(rt.alloc());
-    assert!(rt; catalog.define(rt.alloc(), &first, &[]).is_ok());
-    assert!(rt; catalog.define(rt.alloc(), &second, &[]).is_ok());
-    let answer = catalog.bind(rt.alloc(), &delete);
-    assert_eq!(rt; table_of_delete(&answer), Some(1));
+    assert!(rt; are_made(rt.alloc(), &mut catalog, &p, &c));
+    assert!(rt; is_delete_of_c(&catalog.bind(rt.alloc(), &delete)));
+    assert!(rt; is_insert_into_c(&catalog.bind(rt.alloc(), &insert)));
+    assert!(rt; is_update_of_c(&catalog.bind(rt.alloc(), &update)));
+    assert!(rt; is_select_from_c(&catalog.bind(rt.alloc(), &select)));
+    assert!(rt; is_set_of_second(&catalog.bind(rt.alloc(), &set)));
+    assert!(rt;
+        matches!(
+            catalog.bind(rt.alloc(), &Statement::Commit),
+            Ok(Bound::Commit)
+        )
+    );
+    assert!(rt;
+        matches!(
+            catalog.bind(rt.alloc(), &Statement::Rollback),
+            Ok(Bound::Rollback)
+        )
+    );
     Ok(())
 }
 
 #[test]
-fn a_delete_of_no_table_is_refused(rt: HostRuntime) -> Result<(), Fail> {
+fn what_is_not_there_is_refused(rt: HostRuntime) -> Result<(), Fail> {
+    let p = create_table(rt.alloc(), "p")?;
+    let c = create_table(rt.alloc(), "c")?;
     let delete = delete_from(rt.alloc(), "t")?;
-    let catalog = Catalog::new(rt.alloc());
-    let answer = catalog.bind(rt.alloc(), &delete);
+    let update = update_c(rt.alloc(), "x")?;
+    let set = set_constraints(rt.alloc(), "k")?;
+    let mut catalog = Catalog::new(rt.alloc());
+    assert!(rt; are_made(rt.alloc(), &mut catalog, &p, &c));
     assert_eq!(rt;
-        refusal(&answer),
+        refusal(&catalog.bind(rt.alloc(), &delete)),
         Some("relation \"t\" does not exist".as_bytes())
     );
+    assert_eq!(rt;
+        refusal(&catalog.bind(rt.alloc(), &update)),
+        Some("column \"x\" does not exist".as_bytes())
+    );
+    assert_eq!(rt;
+        refusal(&catalog.bind(rt.alloc(), &set)),
+        Some("constraint \"k\" does not exist".as_bytes())
+    );
+    Ok(())
+}
+
+#[test]
+fn constraints_have_their_names_by_default(rt: HostRuntime) -> Result<(), Fail> {
+    let p = create_table(rt.alloc(), "p")?;
+    let c = create_table(rt.alloc(), "c")?;
+    let name = TextVal::new(rt.alloc(), "c_b_key")?;
+    let other = TextVal::new(rt.alloc(), "c_b_key1")?;
+    let mut catalog = Catalog::new(rt.alloc());
+    assert!(rt; are_made(rt.alloc(), &mut catalog, &p, &c));
+    let found = catalog.named(rt.alloc(), &name)?;
+    assert!(rt; is_second_constraint(found.as_slice()));
+    let none = catalog.named(rt.alloc(), &other)?;
+    assert!(rt; none.as_slice().is_empty());
     Ok(())
 }

@@ -229,6 +229,80 @@ SELECT * FROM t WHERE ((a + (1 * 2)) = 3) AND (NOT b);
     Ok(())
 }
 
+fn is_printed(alloc: Global, script: &str, text: &str) -> Result<bool, NoMemory> {
+    let (status, sink) = answer_of(alloc, &["check"], script, 4096, &[], 4096)?;
+    Ok(status == 0 && sink.bytes() == text.as_bytes())
+}
+
+#[test]
+fn every_form_of_references(rt: HostRuntime) -> Result<(), Fail> {
+    let script = "\\setup
+CREATE TABLE p (a integer, b integer, PRIMARY KEY (a, b), UNIQUE (b));
+CREATE TABLE c (a integer, b integer,
+FOREIGN KEY (a, b) REFERENCES p MATCH FULL ON UPDATE CASCADE ON DELETE SET NULL DEFERRABLE INITIALLY IMMEDIATE,
+CONSTRAINT k FOREIGN KEY (b) REFERENCES p (b) MATCH SIMPLE ON DELETE NO ACTION NOT DEFERRABLE INITIALLY IMMEDIATE,
+FOREIGN KEY (b, a) REFERENCES public.p (b, a) ON DELETE SET DEFAULT ON UPDATE RESTRICT INITIALLY DEFERRED,
+x integer CONSTRAINT \"K k\" REFERENCES p (b) ON UPDATE SET DEFAULT INITIALLY IMMEDIATE NOT NULL);
+ALTER TABLE ONLY c ADD CONSTRAINT u UNIQUE (x, a); ALTER TABLE c ADD FOREIGN KEY (x) REFERENCES p (b) ON DELETE RESTRICT DEFERRABLE;";
+    let text = "\\setup
+CREATE TABLE p (a integer, b integer, PRIMARY KEY (a, b), UNIQUE (b));
+CREATE TABLE c (a integer, b integer, FOREIGN KEY (a, b) REFERENCES p MATCH FULL ON DELETE SET NULL ON UPDATE CASCADE DEFERRABLE, CONSTRAINT k FOREIGN KEY (b) REFERENCES p (b), FOREIGN KEY (b, a) REFERENCES p (b, a) ON DELETE SET DEFAULT ON UPDATE RESTRICT DEFERRABLE INITIALLY DEFERRED, x integer CONSTRAINT \"K k\" REFERENCES p (b) ON UPDATE SET DEFAULT NOT NULL);
+ALTER TABLE c ADD CONSTRAINT u UNIQUE (x, a);
+ALTER TABLE c ADD FOREIGN KEY (x) REFERENCES p (b) ON DELETE RESTRICT DEFERRABLE;
+";
+    assert!(rt; is_printed(rt.alloc(), script, text)?);
+    Ok(())
+}
+
+#[test]
+fn every_form_of_triggers(rt: HostRuntime) -> Result<(), Fail> {
+    let script = "\\setup
+CREATE TABLE t (a integer PRIMARY KEY, b text);
+CREATE FUNCTION f() RETURNS trigger LANGUAGE plpgsql AS $$ BEGIN IF NEW.a = 1 THEN RAISE EXCEPTION 'it''s'; ELSIF OLD.a IS NULL THEN RETURN OLD; ELSE SET CONSTRAINTS ALL DEFERRED; SET CONSTRAINTS x, \"Y\" IMMEDIATE; END IF; INSERT INTO t SELECT a, TG_OP FROM t WHERE b <> 'x'; UPDATE t SET b = DEFAULT, a = a + 1; DELETE FROM t WHERE t.a = NEW.a; RETURN NEW; END $$;
+CREATE FUNCTION g() RETURNS trigger AS $$ BEGIN END; $$ LANGUAGE plpgsql;
+CREATE TRIGGER a AFTER INSERT OR UPDATE OF a, b OR DELETE ON t FOR ROW EXECUTE PROCEDURE f();
+CREATE TRIGGER b AFTER DELETE ON public.t REFERENCING OLD TABLE gone FOR EACH STATEMENT EXECUTE FUNCTION g();
+CREATE TRIGGER c AFTER UPDATE ON t REFERENCING NEW TABLE AS fresh OLD TABLE gone EXECUTE FUNCTION g();
+CREATE CONSTRAINT TRIGGER d AFTER UPDATE ON t INITIALLY DEFERRED FOR ROW WHEN (OLD.a <> NEW.a AND NOT NEW.b = 'x') EXECUTE FUNCTION public.g();";
+    let text = "\\setup
+CREATE TABLE t (a integer PRIMARY KEY, b text);
+CREATE FUNCTION f() RETURNS trigger LANGUAGE plpgsql AS $$ BEGIN IF NEW.a = 1 THEN RAISE EXCEPTION 'it''s'; ELSIF OLD.a IS NULL THEN RETURN OLD; ELSE SET CONSTRAINTS ALL DEFERRED; SET CONSTRAINTS x, \"Y\" IMMEDIATE; END IF; INSERT INTO t SELECT a, TG_OP FROM t WHERE b <> 'x'; UPDATE t SET b = DEFAULT, a = a + 1; DELETE FROM t WHERE t.a = NEW.a; RETURN NEW; END $$;
+CREATE FUNCTION g() RETURNS trigger LANGUAGE plpgsql AS $$ BEGIN END $$;
+CREATE TRIGGER a AFTER INSERT OR UPDATE OF a, b OR DELETE ON t FOR EACH ROW EXECUTE FUNCTION f();
+CREATE TRIGGER b AFTER DELETE ON t REFERENCING OLD TABLE AS gone FOR EACH STATEMENT EXECUTE FUNCTION g();
+CREATE TRIGGER c AFTER UPDATE ON t REFERENCING NEW TABLE AS fresh OLD TABLE AS gone FOR EACH STATEMENT EXECUTE FUNCTION g();
+CREATE CONSTRAINT TRIGGER d AFTER UPDATE ON t DEFERRABLE INITIALLY DEFERRED FOR EACH ROW WHEN ((OLD.a <> NEW.a) AND (NOT (NEW.b = 'x'))) EXECUTE FUNCTION g();
+";
+    assert!(rt; is_printed(rt.alloc(), script, text)?);
+    Ok(())
+}
+
+#[test]
+fn every_form_of_transaction_control(rt: HostRuntime) -> Result<(), Fail> {
+    let script = "\\session a
+begin work; begin transaction isolation level read uncommitted; start transaction isolation level repeatable read; begin isolation level read committed; end; end work; commit transaction; abort; rollback work; rollback to s; rollback transaction to savepoint s; release savepoint s; release s; savepoint \"S\"; set constraints all immediate; set constraints public.a, b, \"C\" deferred;";
+    let text = "\\session a
+BEGIN;
+BEGIN;
+START TRANSACTION ISOLATION LEVEL REPEATABLE READ;
+BEGIN;
+COMMIT;
+COMMIT;
+COMMIT;
+ROLLBACK;
+ROLLBACK;
+ROLLBACK TO s;
+ROLLBACK TO s;
+RELEASE s;
+RELEASE s;
+SAVEPOINT \"S\";
+SET CONSTRAINTS ALL IMMEDIATE;
+SET CONSTRAINTS a, b, \"C\" DEFERRED;
+";
+    assert!(rt; is_printed(rt.alloc(), script, text)?);
+    Ok(())
+}
+
 #[test]
 fn setups_that_are_refused(rt: HostRuntime) -> Result<(), Fail> {
     let cases = [
@@ -249,6 +323,12 @@ CREATE TRIGGER x AFTER INSERT ON t FOR EACH ROW EXECUTE FUNCTION native_ordered(
         (
             "\\setup CREATE TABLE t (id integer, id text REFERENCES q (a, b));",
             "aqueue: line 1: 42701 column \"id\" specified more than once\n",
+        ),
+        (
+            "\\setup CREATE TABLE t (a integer, UNIQUE (a), UNIQUE (a));
+ALTER TABLE t ADD UNIQUE (a);
+ALTER TABLE t ADD CONSTRAINT t_a_key2 UNIQUE (a);",
+            "aqueue: line 3: 42710 constraint \"t_a_key2\" for relation \"t\" already exists\n",
         ),
     ];
     for (script, line) in cases {
