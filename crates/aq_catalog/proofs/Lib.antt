@@ -2,6 +2,7 @@ pub mod NameForms
 pub mod NameLoops
 pub mod NamePairs
 pub mod Places
+pub mod Passing
 pub mod Repeated
 pub mod Indexing
 pub mod Kept

@@ -8,6 +8,7 @@ ghost use Rattle.aq_setup.specs.Catalogs as catalogs;
 ghost use Rattle.aq_setup.specs.Scopes as scopes;
 ghost use Rattle.aq_setup.specs.Tables as tables;
 ghost use Rattle.aq_setup.specs.Triggers.{first_text};
+ghost use Rattle.aq_catalog.specs.Indexed.{passes};
 
 use crate::catalog::Catalog;
 use crate::names::column_at;
@@ -186,10 +187,28 @@ pub(crate) fn names_taken(
     }
 }
 
-fn has_constraint(made: &[Constraint], table: usize, name: &TextVal) -> bool
-    ensures { result ≡ list_any (λ c. c.table == table && same name.now c.name) made.now }
+fn is_of_at(made: &[Constraint], place: usize, table: usize) -> bool
+    ensures { result ≡ passes (λ con. con.table == table) (slice_get made.now place) }
 {
-    made.iter().any(|con| usize::from(con.table.get()) == table && same_text(name, &con.name))
+    match made.get(place) {
+        None => false,
+        Some(constraint) => is_of(constraint, table),
+    }
+}
+
+/// Whether one of the constraints at some places is one of the table.
+fn has_one_of(made: &[Constraint], places: &[u16], table: usize) -> bool
+    ensures { result ≡ list_any (λ place. passes (λ con. con.table == table) (slice_get made.now place)) places.now }
+{
+    places.iter().any(|place| is_of_at(made, usize::from(*place), table))
+}
+
+impl Catalog {
+    fn has_constraint(&self, table: usize, name: &TextVal) -> bool
+        ensures { result ≡ list_any (same name.now) (catalogs.constraint_names self.now table) }
+    {
+        has_one_of(self.constraints.as_slice(), self.constraint_names.all(name), table)
+    }
 }
 
 /// Whether a constraint of the table has the name.
@@ -198,8 +217,24 @@ pub(crate) fn is_taken(catalog: &Catalog, table: Option<usize>, name: &TextVal) 
 {
     match table {
         None => false,
-        Some(table) => has_constraint(catalog.all_constraints(), table, name),
+        Some(table) => catalog.has_constraint(table, name),
     }
+}
+
+fn is_key_of(keys: &[UniqueKey], number: usize, table: usize) -> bool
+    ensures { result ≡ passes (λ key. key.table == table) (slice_get keys.now number) }
+{
+    match keys.get(number) {
+        None => false,
+        Some(key) => usize::from(key.table.get()) == table,
+    }
+}
+
+/// Whether one of the keys with some numbers is one of the table.
+fn has_key_of(keys: &[UniqueKey], numbers: &[KeyNo], table: usize) -> bool
+    ensures { result ≡ list_any (λ number. passes (λ key. key.table == table) (slice_get keys.now number)) numbers.now }
+{
+    numbers.iter().any(|number| is_key_of(keys, usize::from(number.get()), table))
 }
 
 /// Whether there is a table with a primary key under a number.
@@ -208,6 +243,6 @@ pub(crate) fn has_primary(catalog: &Catalog, table: Option<usize>) -> bool
 {
     match table {
         None => false,
-        Some(table) => primary_cols(catalog, table).is_some(),
+        Some(table) => has_key_of(catalog.keys.as_slice(), catalog.primaries.as_slice(), table),
     }
 }
