@@ -145,7 +145,7 @@ pub(crate) fn constraints_exist(
     mut taken: NamesTaken<'_>,
     all: &[NamedConstraint],
 ) -> Result<(), CatFault>
-    ensures { Tells (map (faults.constraint_exists table.now) (repeats_behind taken (map (λ n. n.name) all.now))) result }
+    ensures { Tells (map (faults.constraint_exists table.now) (repeats_behind taken.entry (map (λ n. n.name) all.now))) result }
 {
     for n in all {
         if taken.has(&n.name) {

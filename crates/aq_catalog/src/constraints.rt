@@ -181,7 +181,7 @@ pub(crate) fn named(
     table: &TextVal,
     all: &[TableConstraint],
 ) -> Result<List<NamedConstraint>, AllocError>
-    ensures { IfOk result (λ made. made ≡ constraints.named taken table.now all.now) }
+    ensures { IfOk result (λ made. made ≡ constraints.named taken.entry table.now all.now) }
 {
     let mut made = List::new(alloc);
     for constraint in all {

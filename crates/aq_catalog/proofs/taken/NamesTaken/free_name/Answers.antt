@@ -1,4 +1,4 @@
-use Rattle.std.proofs.Common.{◌≡◌, List, true, IfOk, sym, subst, arith, rules}
+use Rattle.std.proofs.Common.{◌≡◌, true, IfOk, subst, arith, rules}
 use Rattle.std.specs.List.{list_any}
 use Rattle.aq_base.specs.Names.{Text, same_text}
 use Rattle.aq_catalog.proofs.FreeNames.{free_numbered}
