@@ -20,6 +20,9 @@ pub mod MadeTriggers
 pub mod Pairs
 pub mod Loops
 pub mod Repeats
+pub mod FreeNames
+pub mod TakenNames
+pub mod NamedTwice
 pub mod Extending
 pub mod Nulls
 pub mod Items

@@ -13,4 +13,5 @@ pub mod Pairs
 pub mod References
 pub mod Steps
 pub mod Stages
+pub mod Taken
 pub mod Built

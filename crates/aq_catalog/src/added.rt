@@ -21,7 +21,8 @@ use crate::names::{columns_known, table_faults};
 use crate::references::{count_faults, key_faults, kind_faults, primary_faults};
 use crate::refusals::{column_twice, constraint_exists, long_name, many_primary_keys, over_limit};
 use crate::scopes::in_session;
-use aq_base::{Copies, List, Reference, TableConstraint, TextVal};
+use crate::taken::NamesTaken;
+use aq_base::{List, Reference, TableConstraint, TextVal};
 use aq_bound::Column;
 use std::alloc::{AllocError, Global};
 use std::marker::Model;
@@ -135,37 +136,22 @@ pub(crate) fn reference_limit(alloc: Global, fks: usize, added: usize) -> Result
     }
 }
 
-fn names_of(alloc: Global, constraints: &[NamedConstraint]) -> Result<List<TextVal>, AllocError>
-    ensures { IfOk result (λ made. made ≡ map (λ n. n.name) constraints.now) }
-{
-    let mut names = List::new(alloc);
-    for n in constraints {
-        push_name(&mut names, n)?;
-    }
-    Ok(names)
-}
-
-fn push_name(names: &mut List<TextVal>, n: &NamedConstraint) -> Result<(), AllocError>
-    ensures { OnOk result (names.new ≡ names.old ++ n.now.name ∷ []) }
-{
-    names.push(n.name.copy()?)?;
-    Ok(())
-}
-
 /// 42710: a name that a constraint of the table has that stands before.
 pub(crate) fn constraints_exist(
     alloc: Global,
     table: &TextVal,
-    taken: &[TextVal],
+    mut taken: NamesTaken<'_>,
     all: &[NamedConstraint],
 ) -> Result<(), CatFault>
-    ensures { Tells (map (faults.constraint_exists table.now) (repeats_behind taken.now (map (λ n. n.name) all.now))) result }
+    ensures { Tells (map (faults.constraint_exists table.now) (repeats_behind taken.entry (map (λ n. n.name) all.now))) result }
 {
-    let names = names_of(alloc, all)?;
-    match first_repeat(taken, names.as_slice()) {
-        None => Ok(()),
-        Some(name) => Err(constraint_exists(alloc, table, name)),
+    for n in all {
+        if taken.has(&n.name) {
+            return Err(constraint_exists(alloc, table, &n.name));
+        }
+        taken.add(&n.name)?;
     }
+    Ok(())
 }
 
 /// 42701: columns of which one stands before.

@@ -1,15 +1,12 @@
 //! The constraints that a CREATE TABLE or an ALTER TABLE adds, and their names
 //! (PostgreSQL source, indexcmds.c, ChooseIndexName; tablecmds.c, ChooseForeignKeyConstraintNameAddition).
 
-ghost use Rattle.std.specs.Prelude.{◌≡◌, ◌++◌, [], ◌∷◌, IfOk, OnOk, find, string_bytes, codes};
+ghost use Rattle.std.specs.Prelude.{◌≡◌, ◌++◌, [], ◌∷◌, IfOk, OnOk, string_bytes, codes};
 ghost use Rattle.std.specs.List.{flat_map};
-ghost use Rattle.std.specs.Fmt.{decimal};
-ghost use Rattle.aq_base.specs.Names.{is_apart_from as apart_from};
 ghost use Rattle.aq_setup.specs.Constraints as constraints;
 
-use crate::lookups::is_in;
+use crate::taken::NamesTaken;
 use aq_base::{ColumnConstraint, Copies, List, TableConstraint, TableItem, TextVal};
-use itoa::Buffer;
 use std::alloc::{AllocError, Global};
 use std::marker::Model;
 
@@ -159,77 +156,37 @@ fn default_name(
     }
 }
 
-fn with_number(alloc: Global, name: &TextVal, n: u64) -> Result<TextVal, AllocError>
-    ensures { IfOk result (λ made. made ≡ name.now ++ decimal n) }
-{
-    let mut text = String::from_str(alloc, name.as_str())?;
-    text.push_str(Buffer::new().format(n))?;
-    Ok(TextVal::from_string(text))
-}
-
-/// The name with a number behind it that is free: the first of 1, 2 and so on, as many as there are names taken.
-fn numbered_name(
-    alloc: Global,
-    taken: &[TextVal],
-    name: &TextVal,
-) -> Result<Option<TextVal>, AllocError>
-    ensures { IfOk result (λ made. made ≡ find (apart_from taken.now) (constraints.numbered name.now 1 taken.now)) }
-{
-    let mut rest = taken;
-    let mut n = 1;
-    'numbers: while let Some((_, others)) = rest.split_first() {
-        let candidate = with_number(alloc, name, n)?;
-        if !is_in(taken, &candidate) {
-            return Ok(Some(candidate));
-        }
-        rest = others;
-        n += 1;
-    }
-    Ok(None)
-}
-
-fn free_name(alloc: Global, taken: &[TextVal], name: TextVal) -> Result<TextVal, AllocError>
-    ensures { IfOk result (λ made. made ≡ constraints.free_name taken.now name) }
-{
-    if !is_in(taken, &name) {
-        return Ok(name);
-    }
-    match numbered_name(alloc, taken, &name)? {
-        None => Ok(name),
-        Some(numbered) => Ok(numbered),
-    }
-}
-
 fn name_of(
     alloc: Global,
-    taken: &[TextVal],
+    taken: &mut NamesTaken<'_>,
     table: &TextVal,
     constraint: &TableConstraint,
 ) -> Result<TextVal, AllocError>
-    ensures { IfOk result (λ made. made ≡ constraints.name_of taken.now table.now constraint.now) }
+    ensures made { IfOk result (λ made. made ≡ constraints.name_of taken.old table.now constraint.now) }
+    ensures kept { taken.new ≡ taken.old }
 {
     let (TableConstraint::PrimaryKey { name, .. }
     | TableConstraint::Unique { name, .. }
     | TableConstraint::ForeignKey { name, .. }) = constraint;
     match name {
         Some(name) => name.copy(),
-        None => free_name(alloc, taken, default_name(alloc, table, constraint)?),
+        None => taken.free_name(alloc, default_name(alloc, table, constraint)?),
     }
 }
 
 /// Constraints with their names, where the table's constraints have some names.
 pub(crate) fn named(
     alloc: Global,
-    mut taken: List<TextVal>,
+    mut taken: NamesTaken<'_>,
     table: &TextVal,
     all: &[TableConstraint],
 ) -> Result<List<NamedConstraint>, AllocError>
-    ensures { IfOk result (λ made. made ≡ constraints.named taken table.now all.now) }
+    ensures { IfOk result (λ made. made ≡ constraints.named taken.entry table.now all.now) }
 {
     let mut made = List::new(alloc);
     for constraint in all {
-        let name = name_of(alloc, taken.as_slice(), table, constraint)?;
-        taken.push(name.copy()?)?;
+        let name = name_of(alloc, &mut taken, table, constraint)?;
+        taken.add(&name)?;
         made.push(NamedConstraint {
             name,
             constraint: constraint.copy()?,

@@ -27,6 +27,7 @@ mod setup;
 mod statements;
 mod steps;
 mod tables;
+mod taken;
 mod trigger_faults;
 mod triggers;
 mod wanted;

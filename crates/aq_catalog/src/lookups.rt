@@ -1,6 +1,6 @@
 //! What a catalog has under a name or a number.
 
-ghost use Rattle.std.specs.Prelude.{◌≡◌, ◌&&◌, ◌||◌, ◌==◌, IfOk, filter, find, map, option_map, slice_get};
+ghost use Rattle.std.specs.Prelude.{◌≡◌, ◌&&◌, ◌||◌, ◌==◌, IfOk, find, map, option_map, slice_get};
 ghost use Rattle.std.specs.List.{enumerate_from, list_any};
 ghost use Rattle.std.specs.Option.{option_copied};
 ghost use Rattle.aq_base.specs.Names.{same_text as same};
@@ -12,7 +12,7 @@ ghost use Rattle.aq_catalog.specs.Indexed.{passes};
 
 use crate::catalog::Catalog;
 use crate::names::column_at;
-use aq_base::{ColNo, Copies, KeyNo, Kind, List, Same, TextVal};
+use aq_base::{ColNo, KeyNo, Kind, List, Same, TextVal};
 use aq_bound::{Column, Constraint, UniqueKey};
 use std::alloc::{AllocError, Global};
 
@@ -111,39 +111,6 @@ pub(crate) fn primary_cols(catalog: &Catalog, table: usize) -> Option<&List<ColN
     first_primary(catalog.primaries.as_slice(), catalog.keys.as_slice(), table)
 }
 
-fn is_of(constraint: &Constraint, table: usize) -> bool
-    ensures { result ≡ (constraint.now.table == table) }
-{
-    usize::from(constraint.table.get()) == table
-}
-
-fn names_of(
-    alloc: Global,
-    constraints: &[Constraint],
-    table: usize,
-) -> Result<List<TextVal>, AllocError>
-    ensures { IfOk result (λ made. made ≡ map (λ con. con.name) (filter (λ con. con.table == table) constraints.now)) }
-{
-    let mut names = List::new(alloc);
-    for constraint in constraints {
-        if is_of(constraint, table) {
-            names.push(constraint.name.copy()?)?;
-        }
-    }
-    Ok(names)
-}
-
-/// The names of a table's constraints.
-pub(crate) fn constraint_names(
-    alloc: Global,
-    catalog: &Catalog,
-    table: usize,
-) -> Result<List<TextVal>, AllocError>
-    ensures { IfOk result (λ made. made ≡ catalogs.constraint_names catalog.now table) }
-{
-    names_of(alloc, catalog.constraints.as_slice(), table)
-}
-
 /// A list of columns with the same numbers. The error is want of memory.
 pub(crate) fn copied_cols(alloc: Global, cols: &[ColNo]) -> Result<List<ColNo>, AllocError>
     ensures { IfOk result (λ made. made ≡ cols.now) }
@@ -171,20 +138,6 @@ pub(crate) fn first_repeat<'a>(taken: &[TextVal], names: &'a [TextVal]) -> Optio
         }
     }
     None
-}
-
-/// The names of the constraints of a table, none where there is no such table.
-pub(crate) fn names_taken(
-    alloc: Global,
-    catalog: &Catalog,
-    table: Option<usize>,
-) -> Result<List<TextVal>, AllocError>
-    ensures { IfOk result (λ made. made ≡ tables.names_taken catalog.now table) }
-{
-    match table {
-        None => Ok(List::new(alloc)),
-        Some(table) => constraint_names(alloc, catalog, table),
-    }
 }
 
 fn is_of_at(made: &[Constraint], place: usize, table: usize) -> bool

@@ -24,7 +24,7 @@ use crate::added::{
 use crate::catalog::Catalog;
 use crate::constraints::{NamedConstraint, named, of_items};
 use crate::fault::CatFault;
-use crate::lookups::{constraint_names, has_primary, names_taken, number_of_table};
+use crate::lookups::{has_primary, number_of_table};
 use crate::names::table_faults;
 use crate::refusals::function_exists;
 use crate::scopes::in_session;
@@ -32,6 +32,7 @@ use crate::tables::{
     column_limit, declared_columns, declared_table, defaults_fit, items_twice, table_exists,
     table_limit,
 };
+use crate::taken::NamesTaken;
 use crate::trigger_faults::native_named;
 use crate::wanted::{constraint_trigger, plain_trigger};
 use aq_base::{
@@ -48,7 +49,7 @@ fn created_constraints(
 ) -> Result<List<NamedConstraint>, AllocError>
     ensures { IfOk result (λ made. made ≡ (tables.created catalog.now s.now).constraints) }
 {
-    let taken = constraint_names(alloc, catalog, catalog.tables.len())?;
+    let taken = NamesTaken::new(alloc, catalog, Some(catalog.tables.len()));
     let all = of_items(alloc, s.items.as_slice())?;
     named(alloc, taken, &s.table, all.as_slice())
 }
@@ -103,8 +104,7 @@ fn exist_already(
 ) -> Result<(), CatFault>
     ensures { Tells (stages.exist_of catalog.now number table.now all.now) result }
 {
-    let taken = names_taken(alloc, catalog, number)?;
-    constraints_exist(alloc, table, taken.as_slice(), all)
+    constraints_exist(alloc, table, NamesTaken::new(alloc, catalog, number), all)
 }
 
 fn primary_twice(
@@ -155,7 +155,7 @@ fn altered_constraints(
 ) -> Result<List<NamedConstraint>, AllocError>
     ensures { IfOk result (λ made. made ≡ (tables.altered catalog.now s.now).constraints) }
 {
-    let taken = names_taken(alloc, catalog, catalog.table_at(&s.table))?;
+    let taken = NamesTaken::new(alloc, catalog, catalog.table_at(&s.table));
     let mut all = List::new(alloc);
     all.push(s.constraint.copy()?)?;
     named(alloc, taken, &s.table, all.as_slice())
