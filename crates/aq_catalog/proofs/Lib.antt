@@ -4,6 +4,8 @@ pub mod NamePairs
 pub mod Places
 pub mod Repeated
 pub mod Indexing
+pub mod Standing
+pub mod Numbering
 pub mod Kept
 pub mod Rows
 pub mod Shortening
