@@ -5,6 +5,8 @@ pub mod Places
 pub mod Passing
 pub mod Repeated
 pub mod Indexing
+pub mod Standing
+pub mod Numbering
 pub mod Kept
 pub mod Rows
 pub mod Shortening

@@ -1,5 +1,6 @@
 pub mod Answers
 pub mod Indexed
+pub mod Numbered
 pub mod Listed
 pub mod Marks
 pub mod Pieces

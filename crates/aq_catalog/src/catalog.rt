@@ -27,6 +27,8 @@ pub struct Catalog {
     pub(crate) table_names: NameIndex,
     pub(crate) constraint_names: NameIndex,
     pub(crate) function_names: NameIndex,
+    /// For each constraint a number: its table has the constraint's name with each lesser one behind it.
+    pub(crate) next_numbers: Vec<u64>,
 }
 
 impl Model for Catalog {
@@ -44,8 +46,9 @@ impl Model for Catalog {
 
     ghost use Rattle.aq_catalog.specs.Listed.{IsKept};
     ghost use Rattle.aq_catalog.specs.Indexed.{IsIndexed};
+    ghost use Rattle.aq_catalog.specs.Numbered.{IsNumbered};
 
-    ghost invariant = { λ c. IsKept c.tables.items c.keys.items c.fks.items c.triggers.items c.by_table.items × IsIndexed (λ con. con.name) c.constraints.items c.constraint_names × IsIndexed (λ function. function.name) c.functions.items c.function_names × IsIndexed (λ table. table.name) c.tables.items c.table_names };
+    ghost invariant = { λ c. IsKept c.tables.items c.keys.items c.fks.items c.triggers.items c.by_table.items × IsIndexed (λ con. con.name) c.constraints.items c.constraint_names × IsIndexed (λ function. function.name) c.functions.items c.function_names × IsIndexed (λ table. table.name) c.tables.items c.table_names × IsNumbered c.constraints.items c.next_numbers.items };
 }
 
 impl Catalog {
@@ -65,6 +68,7 @@ impl Catalog {
             table_names: NameIndex::new(alloc),
             constraint_names: NameIndex::new(alloc),
             function_names: NameIndex::new(alloc),
+            next_numbers: Vec::new(alloc),
         }
     }
 

@@ -1,6 +1,6 @@
 //! What a statement of a setup adds, and the way back where it fails.
 
-ghost use Rattle.std.specs.Prelude.{◌≡◌, ◌++◌, [], ◌∷◌, OnOk, OnErr, take};
+ghost use Rattle.std.specs.Prelude.{◌≡◌, ◌++◌, [], ◌∷◌, OnOk, OnErr, length, min, replicate, take};
 ghost use Rattle.aq_catalog.specs.Indexed.{IsIndexed};
 ghost use Rattle.aq_catalog.specs.Marks.{mark_of, shortened, with_columns_at, with_columns_not_null};
 
@@ -77,8 +77,10 @@ impl Catalog {
         let place = number(self.constraints.len())?;
         let alloc = *self.constraints.allocator();
         self.constraints.reserve(1)?;
+        self.next_numbers.reserve(1)?;
         self.constraint_names.push(alloc, &constraint.name, place)?;
         self.constraints.push_reserved(constraint);
+        self.next_numbers.push_reserved(1);
         Ok(())
     }
 
@@ -125,6 +127,7 @@ impl Catalog {
             &mut self.constraint_names,
             mark.constraints,
         );
+        restart_numbers(&mut self.next_numbers, mark.constraints);
         shorten_functions(
             &mut self.functions,
             &mut self.function_names,
@@ -175,6 +178,14 @@ fn shorten_constraints(constraints: &mut Vec<Constraint>, names: &mut NameIndex,
             names.pop(&last.name);
         }
     }
+}
+
+/// As many numbers as there were constraints, each 1: others may have been taken behind the mark.
+fn restart_numbers(numbers: &mut Vec<u64>, len: usize)
+    ensures { numbers.new.items ≡ replicate (min len (length numbers.old.items)) 1 }
+{
+    numbers.truncate(len);
+    numbers.as_mut_slice().fill(1);
 }
 
 /// As many functions as there were, and their names.

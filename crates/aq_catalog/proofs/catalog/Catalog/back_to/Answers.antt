@@ -1,4 +1,5 @@
 use Rattle.aq_catalog.proofs.Kept.{kept_fewer}
+use Rattle.aq_catalog.proofs.Numbering.{numbered_again}
 use Rattle.aq_catalog.proofs.catalog.Catalog.back_to.Goals as goal
 
 pub invariant_of-self : goal.invariant_of-self
@@ -11,4 +12,6 @@ invariant_of-self c =
       c.shorten_constraints.ensures.indexed,
       c.shorten_functions.ensures.indexed,
       c.shorten_tables.ensures.indexed,
+      numbered_again s.constraints.items c.shorten_constraints.new.constraints.items s.next_numbers.items c.restart_numbers.new.numbers.items m.constraints c.self.invariant.4
+          c.shorten_constraints.ensures.items c.restart_numbers.ensures,
     )

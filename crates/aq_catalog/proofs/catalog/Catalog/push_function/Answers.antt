@@ -13,4 +13,5 @@ invariant_of-self-2 c =
           (indexed_more (λ function. function.name) s.functions.items c.args.function s.function_names c.push.new.self c.in_ok-place.place c.args.function.name c.self.invariant.2
           (omega (arith, c.in_ok-place.ensures.ok, c.len.ensures, s.functions.ok.0)) refl c.in_ok-push.ensures.ok),
       c.self.invariant.3,
+      c.self.invariant.4,
     )

@@ -16,4 +16,5 @@ invariant_of-self-2 c =
       subst (λ l. IsIndexed (λ table. table.name) l c.push.new.self) (sym pushed)
           (indexed_more (λ table. table.name) s.tables.items c.args.table s.table_names c.push.new.self c.in_ok-place.place c.args.table.name c.self.invariant.3
           (omega (arith, c.in_ok-place.ensures.ok, c.len-2.ensures, s.tables.ok.0)) refl c.in_ok-push.ensures.ok),
+      c.self.invariant.4,
     )

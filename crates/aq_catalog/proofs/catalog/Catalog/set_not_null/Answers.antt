@@ -12,4 +12,5 @@ invariant_of-self c =
       c.self.invariant.1,
       c.self.invariant.2,
       subst (λ l. IsIndexed (λ t. t.name) l s.table_names) (sym c.put_columns.ensures) (indexed_columns s.tables.items c.args.table c.args.cols s.table_names c.self.invariant.3),
+      c.self.invariant.4,
     )

@@ -1,0 +1,24 @@
+-- The numbers at which the search for a free name of a constraint begins.
+use Rattle.std.specs.Prelude.{ℕ, Bool, true, false, ◌≡◌, ◌<◌, ◌≤◌, ◌==◌, ◌++◌, List, Some, None, filter, length, map, slice_get, slice_index_or}
+use Rattle.std.specs.List.{list_any}
+use Rattle.std.specs.Fmt.{decimal}
+use Rattle.aq_base.specs.Names.{Text, same_text}
+use Rattle.aq_bound.specs.declared.catalog.Constraint.{Constraint}
+
+-- the names of a table's constraints
+abbrev pub names_in : List Constraint → ℕ → List Text
+names_in constraints table = map (λ con. con.name) (filter (λ con. con.table == table) constraints)
+
+-- a name is taken with each number behind it that is less than another one, counted from 1
+abbrev pub AreTaken : List Text → Text → ℕ → Type 0
+AreTaken names name number = (k : ℕ) → 1 ≤ k → k < number → list_any (same_text (name ++ decimal k)) names ≡ true
+
+-- whether a constraint of a table stands at a place
+abbrev pub is_of : List Constraint → ℕ → ℕ → Bool
+is_of constraints table place = elim (slice_get constraints place) [ None ↦ false | Some con ↦ con.table == table ]
+
+-- each constraint has a number, and its table has the name of the constraint with each lesser one behind it
+pub record IsNumbered (constraints : List Constraint) (numbers : List ℕ) : Type 0 where
+  pub count : length numbers ≡ length constraints
+  pub positive : (place : ℕ) → 1 ≤ slice_index_or numbers place 1
+  pub lesser : (place : ℕ) (con : Constraint) → slice_get constraints place ≡ Some con → AreTaken (names_in constraints con.table) con.name (slice_index_or numbers place 1)
