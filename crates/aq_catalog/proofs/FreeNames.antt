@@ -67,8 +67,8 @@ taken_within taken name n small itself lesser =
     pigeonhole n (length taken) (λ k. place_of (with_number name k) taken)
     (λ k below. within (with_number name k) taken (taken_at taken name n k itself lesser below))
     (λ i j below_i below_j same.
-      numbers_differ name i j (omega arith) (omega arith)
-      (same_place (with_number name i) (with_number name j) taken (taken_at taken name n i itself lesser below_i) (taken_at taken name n j itself lesser below_j) same))
+    numbers_differ name i j (omega arith) (omega arith)
+    (same_place (with_number name i) (with_number name j) taken (taken_at taken name n i itself lesser below_i) (taken_at taken name n j itself lesser below_j) same))
 
 -- ---- the name that is found
 

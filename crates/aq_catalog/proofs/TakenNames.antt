@@ -49,6 +49,7 @@ searched_more old new taken more name was changes q n h = by (same_text name q) 
   where
     kept : (o : Option ℕ) → lookup (same_text q) old ≡ o → o ≡ Some n → (1 ≤ n) × AreTaken (taken ++ more) q n
     kept o is h = let w = was q n (is ∙ h) in (w.0, still_taken taken more q n w.1)
+
     by : (b : Bool) (o : Option ℕ) → lookup (same_text q) old ≡ o → (if b then Some (unwrap_or o 1) else o) ≡ Some n → (1 ≤ n) × AreTaken (taken ++ more) q n
     by true None is h = let one : 1 ≡ n = same_Some 1 n h in (omega arith, λ k positive below. absurd (omega arith))
     by true (Some m) is h = kept (Some m) is h

@@ -140,6 +140,12 @@ pub(crate) fn first_repeat<'a>(taken: &[TextVal], names: &'a [TextVal]) -> Optio
     None
 }
 
+fn is_of(constraint: &Constraint, table: usize) -> bool
+    ensures { result ≡ (constraint.now.table == table) }
+{
+    usize::from(constraint.table.get()) == table
+}
+
 fn is_of_at(made: &[Constraint], place: usize, table: usize) -> bool
     ensures { result ≡ passes (λ con. con.table == table) (slice_get made.now place) }
 {
@@ -153,14 +159,20 @@ fn is_of_at(made: &[Constraint], place: usize, table: usize) -> bool
 fn has_one_of(made: &[Constraint], places: &[u16], table: usize) -> bool
     ensures { result ≡ list_any (λ place. passes (λ con. con.table == table) (slice_get made.now place)) places.now }
 {
-    places.iter().any(|place| is_of_at(made, usize::from(*place), table))
+    places
+        .iter()
+        .any(|place| is_of_at(made, usize::from(*place), table))
 }
 
 impl Catalog {
     fn has_constraint(&self, table: usize, name: &TextVal) -> bool
         ensures { result ≡ list_any (same name.now) (catalogs.constraint_names self.now table) }
     {
-        has_one_of(self.constraints.as_slice(), self.constraint_names.all(name), table)
+        has_one_of(
+            self.constraints.as_slice(),
+            self.constraint_names.all(name),
+            table,
+        )
     }
 }
 
@@ -187,7 +199,9 @@ fn is_key_of(keys: &[UniqueKey], number: usize, table: usize) -> bool
 fn has_key_of(keys: &[UniqueKey], numbers: &[KeyNo], table: usize) -> bool
     ensures { result ≡ list_any (λ number. passes (λ key. key.table == table) (slice_get keys.now number)) numbers.now }
 {
-    numbers.iter().any(|number| is_key_of(keys, usize::from(number.get()), table))
+    numbers
+        .iter()
+        .any(|number| is_key_of(keys, usize::from(number.get()), table))
 }
 
 /// Whether there is a table with a primary key under a number.
