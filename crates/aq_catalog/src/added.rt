@@ -164,7 +164,7 @@ pub(crate) fn constraints_exist(
     ensures { Tells (map (faults.constraint_exists table.now) (repeats_behind taken.now (map (λ n. n.name) all.now))) result }
 {
     let names = names_of(alloc, all)?;
-    match first_repeat(taken, names.as_slice()) {
+    match first_repeat(alloc, taken, names.as_slice())? {
         None => Ok(()),
         Some(name) => Err(constraint_exists(alloc, table, name)),
     }
@@ -178,7 +178,7 @@ pub(crate) fn columns_twice(
 ) -> Result<(), CatFault>
     ensures { Tells (map faults.column_twice (repeats_behind before.now names.now)) result }
 {
-    match first_repeat(before, names) {
+    match first_repeat(alloc, before, names)? {
         None => Ok(()),
         Some(name) => Err(column_twice(alloc, name)),
     }

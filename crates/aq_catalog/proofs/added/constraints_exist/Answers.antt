@@ -1,4 +1,5 @@
-use Rattle.std.proofs.Common.{◌≡◌, map, subst, rules}
+use Rattle.std.proofs.Common.{◌≡◌, ◌∙◌, ap, sym, map, subst, rules}
+use Rattle.std.specs.Option.{option_copied}
 use Rattle.aq_setup.specs.Scopes.{repeats_behind}
 use Rattle.aq_setup.specs.Faults.{constraint_exists}
 use Rattle.aq_catalog.specs.Answers.{IsFault}
@@ -12,5 +13,5 @@ returns c =
       subst
           (λ names. IsFault (map (constraint_exists c.args.table.now) (repeats_behind c.args.taken.now names)) c.constraint_exists.result)
           e
-          (first_again (constraint_exists c.args.table.now) (repeats_behind c.args.taken.now c.as_slice.result.now) c.in-Some.name.now c.constraint_exists.result c.in-Some.ensures c.constraint_exists.ensures),
+          (first_again (constraint_exists c.args.table.now) (repeats_behind c.args.taken.now c.as_slice.result.now) c.in-Some.name.now c.constraint_exists.result (sym (ap option_copied c.in-Some.is) ∙ c.in_ok-first_repeat.ensures) c.constraint_exists.ensures),
     )
