@@ -156,6 +156,7 @@ pub(crate) fn copied_cols(alloc: Global, cols: &[ColNo]) -> Result<List<ColNo>, 
     Ok(made)
 }
 
+/// Names as a set. The error is want of memory.
 fn set_of(alloc: Global, names: &[TextVal]) -> Result<NameSet, AllocError>
     ensures { IfOk result (λ made. (q : Text) → list_any (same q) made ≡ list_any (same q) names.now) }
 {
@@ -211,14 +212,20 @@ fn is_of_at(made: &[Constraint], place: usize, table: usize) -> bool
 fn has_one_of(made: &[Constraint], places: &[u16], table: usize) -> bool
     ensures { result ≡ list_any (λ place. passes (λ con. con.table == table) (slice_get made.now place)) places.now }
 {
-    places.iter().any(|place| is_of_at(made, usize::from(*place), table))
+    places
+        .iter()
+        .any(|place| is_of_at(made, usize::from(*place), table))
 }
 
 impl Catalog {
     fn has_constraint(&self, table: usize, name: &TextVal) -> bool
         ensures { result ≡ list_any (same name.now) (catalogs.constraint_names self.now table) }
     {
-        has_one_of(self.constraints.as_slice(), self.constraint_names.all(name), table)
+        has_one_of(
+            self.constraints.as_slice(),
+            self.constraint_names.all(name),
+            table,
+        )
     }
 }
 
@@ -245,7 +252,9 @@ fn is_key_of(keys: &[UniqueKey], number: usize, table: usize) -> bool
 fn has_key_of(keys: &[UniqueKey], numbers: &[KeyNo], table: usize) -> bool
     ensures { result ≡ list_any (λ number. passes (λ key. key.table == table) (slice_get keys.now number)) numbers.now }
 {
-    numbers.iter().any(|number| is_key_of(keys, usize::from(number.get()), table))
+    numbers
+        .iter()
+        .any(|number| is_key_of(keys, usize::from(number.get()), table))
 }
 
 /// Whether there is a table with a primary key under a number.
