@@ -162,7 +162,7 @@ pub(crate) fn columns_twice(
 ) -> Result<(), CatFault>
     ensures { Tells (map faults.column_twice (repeats_behind before.now names.now)) result }
 {
-    match first_repeat(before, names) {
+    match first_repeat(alloc, before, names)? {
         None => Ok(()),
         Some(name) => Err(column_twice(alloc, name)),
     }

@@ -15,6 +15,7 @@ mod lengths;
 mod lookups;
 mod mark;
 mod name_index;
+mod name_set;
 mod names;
 mod next_number;
 mod of_table;

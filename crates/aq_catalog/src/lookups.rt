@@ -3,7 +3,7 @@
 ghost use Rattle.std.specs.Prelude.{◌≡◌, ◌&&◌, ◌||◌, ◌==◌, IfOk, find, map, option_map, slice_get};
 ghost use Rattle.std.specs.List.{enumerate_from, list_any};
 ghost use Rattle.std.specs.Option.{option_copied};
-ghost use Rattle.aq_base.specs.Names.{same_text as same};
+ghost use Rattle.aq_base.specs.Names.{Text, same_text as same};
 ghost use Rattle.aq_setup.specs.Catalogs as catalogs;
 ghost use Rattle.aq_setup.specs.Scopes as scopes;
 ghost use Rattle.aq_setup.specs.Tables as tables;
@@ -11,6 +11,7 @@ ghost use Rattle.aq_setup.specs.Triggers.{first_text};
 ghost use Rattle.aq_catalog.specs.Indexed.{passes};
 
 use crate::catalog::Catalog;
+use crate::name_set::NameSet;
 use crate::names::column_at;
 use aq_base::{ColNo, KeyNo, Kind, List, Same, TextVal};
 use aq_bound::{Column, Constraint, UniqueKey};
@@ -122,22 +123,33 @@ pub(crate) fn copied_cols(alloc: Global, cols: &[ColNo]) -> Result<List<ColNo>, 
     Ok(made)
 }
 
-fn stood_before(taken: &[TextVal], before: &[TextVal], name: &TextVal) -> bool
-    ensures { result ≡ (list_any (same name.now) taken.now || list_any (same name.now) before.now) }
+/// Names as a set. The error is want of memory.
+fn set_of(alloc: Global, names: &[TextVal]) -> Result<NameSet, AllocError>
+    ensures { IfOk result (λ made. (q : Text) → list_any (same q) made ≡ list_any (same q) names.now) }
 {
-    is_in(taken, name) || is_in(before, name)
+    let mut made = NameSet::new(alloc);
+    for name in names {
+        made.add(name)?;
+    }
+    Ok(made)
 }
 
-/// The first name that is taken or stands before.
-pub(crate) fn first_repeat<'a>(taken: &[TextVal], names: &'a [TextVal]) -> Option<&'a TextVal>
-    ensures { option_copied result ≡ first_text (scopes.repeats_behind taken.now names.now) }
+/// The first name that is taken or stands before. The error is want of memory.
+pub(crate) fn first_repeat<'a>(
+    alloc: Global,
+    taken: &[TextVal],
+    names: &'a [TextVal],
+) -> Result<Option<&'a TextVal>, AllocError>
+    ensures { IfOk result (λ found. option_copied found ≡ first_text (scopes.repeats_behind taken.now names.now)) }
 {
-    for (place, name) in names.iter().enumerate() {
-        if stood_before(taken, &names[..place], name) {
-            return Some(name);
+    let mut seen = set_of(alloc, taken)?;
+    for name in names {
+        if seen.has(name) {
+            return Ok(Some(name));
         }
+        seen.add(name)?;
     }
-    None
+    Ok(None)
 }
 
 fn is_of(constraint: &Constraint, table: usize) -> bool

@@ -17,13 +17,14 @@ ghost use Rattle.aq_setup.specs.Triggers as triggers;
 ghost use Rattle.aq_catalog.specs.Answers.{Tells};
 ghost use Rattle.aq_catalog.specs.TriggerLines.{trigger_named, constraint_named, when_of, missing, of_form, of_bodies};
 
+use crate::added;
 use crate::catalog::Catalog;
 use crate::fault::CatFault;
 use crate::lookups::is_taken;
 use crate::names::{columns_known, table_faults};
 use crate::old_new::{uses_new, uses_old};
 use crate::refusals::{
-    column_twice, constraint_exists, native_misused, no_function, no_new_table, no_old_or_new,
+    constraint_exists, native_misused, no_function, no_new_table, no_old_or_new,
     no_old_table, over_limit, transition_columns, transition_events, trigger_exists,
     trigger_reserved,
 };
@@ -129,23 +130,11 @@ fn trigger_name_faults(alloc: Global, catalog: &Catalog, w: &Wanted<'_>) -> Resu
     constraint_name_fault(alloc, catalog, w)
 }
 
-fn stands_in(names: &[TextVal], name: &TextVal) -> bool
-    ensures { result ≡ list_any (same_text name.now) names.now }
-{
-    names.iter().any(|other| name.same(other))
-}
-
 /// A column that stands twice in UPDATE OF.
 fn columns_twice(alloc: Global, names: &[TextVal]) -> Result<(), CatFault>
     ensures { Tells (map faults.column_twice (repeats names.now)) result }
 {
-    for at in 0..names.len() {
-        let name = &names[at];
-        if stands_in(&names[..at], name) {
-            return Err(column_twice(alloc, name));
-        }
-    }
-    Ok(())
+    added::columns_twice(alloc, &[], names)
 }
 
 /// The native check of a name.
