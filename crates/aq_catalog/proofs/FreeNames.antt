@@ -11,9 +11,6 @@ use Rattle.aq_base.specs.Names.{Text, same_text, is_apart_from}
 use Rattle.aq_setup.specs.Constraints.{numbered, free_name}
 use Rattle.aq_catalog.specs.Taken.{AreTaken}
 
-same_is : (a b : Text) → same_text a b ≡ true → a ≡ b
-same_is a b h = texts_same a b (sym h)
-
 -- ---- texts that differ have different places in a list
 
 abbrev place_of : Text → List Text → ℕ
@@ -36,7 +33,7 @@ same_place a b (x ∷ xs) in_a in_b same = by (same_text a x) refl (same_text b 
         → (if at_a then 0 else suc (place_of a xs)) ≡ (if at_b then 0 else suc (place_of b xs))
         → (list_any (same_text a) xs ≡ true → list_any (same_text b) xs ≡ true → place_of a xs ≡ place_of b xs → a ≡ b)
         → a ≡ b
-    by true is_a true is_b in_a in_b same deeper = same_is a x is_a ∙ sym (same_is b x is_b)
+    by true is_a true is_b in_a in_b same deeper = texts_same a x (sym is_a) ∙ sym (texts_same b x (sym is_b))
     by true is_a false is_b in_a in_b same deeper = absurd (omega (arith, same))
     by false is_a true is_b in_a in_b same deeper = absurd (omega (arith, same))
     by false is_a false is_b in_a in_b same deeper = deeper in_a in_b (omega (arith, same))
@@ -67,8 +64,8 @@ taken_within taken name n small itself lesser =
     pigeonhole n (length taken) (λ k. place_of (with_number name k) taken)
     (λ k below. within (with_number name k) taken (taken_at taken name n k itself lesser below))
     (λ i j below_i below_j same.
-      numbers_differ name i j (omega arith) (omega arith)
-      (same_place (with_number name i) (with_number name j) taken (taken_at taken name n i itself lesser below_i) (taken_at taken name n j itself lesser below_j) same))
+    numbers_differ name i j (omega arith) (omega arith)
+    (same_place (with_number name i) (with_number name j) taken (taken_at taken name n i itself lesser below_i) (taken_at taken name n j itself lesser below_j) same))
 
 -- ---- the name that is found
 

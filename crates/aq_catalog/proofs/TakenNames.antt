@@ -3,16 +3,12 @@ use Rattle.std.proofs.Common.{◌≡◌, ℕ, ◌≤◌, Bool, true, false, ◌|
 use Rattle.std.specs.List.{list_any}
 use Rattle.std.specs.Map.{lookup}
 use Rattle.std.specs.Fmt.{decimal}
-use Rattle.std.specs.Cmp.Lexicographic.{same_text as texts_same}
 use Rattle.std.proofs.lemmas.Cmp.{nat_list_eq_equiv}
 use Rattle.std.proofs.lemmas.Bool.{false≢true}
 use Rattle.std.proofs.lemmas.Option.{same_Some}
 use Rattle.std.proofs.lemmas.List.Folds.{list_any-append}
 use Rattle.aq_base.specs.Names.{Text, same_text}
 use Rattle.aq_catalog.specs.Taken.{AreTaken, HasAdded, IsSearched, entered}
-
-same_is : (a b : Text) → same_text a b ≡ true → a ≡ b
-same_is a b h = texts_same a b (sym h)
 
 flipped : (a b : Text) → same_text a b ≡ same_text b a
 flipped a b = nat_list_eq_equiv.symm a b
@@ -49,6 +45,7 @@ searched_more old new taken more name was changes q n h = by (same_text name q) 
   where
     kept : (o : Option ℕ) → lookup (same_text q) old ≡ o → o ≡ Some n → (1 ≤ n) × AreTaken (taken ++ more) q n
     kept o is h = let w = was q n (is ∙ h) in (w.0, still_taken taken more q n w.1)
+
     by : (b : Bool) (o : Option ℕ) → lookup (same_text q) old ≡ o → (if b then Some (unwrap_or o 1) else o) ≡ Some n → (1 ≤ n) × AreTaken (taken ++ more) q n
     by true None is h = let one : 1 ≡ n = same_Some 1 n h in (omega arith, λ k positive below. absurd (omega arith))
     by true (Some m) is h = kept (Some m) is h
