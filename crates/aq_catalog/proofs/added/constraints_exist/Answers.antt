@@ -1,4 +1,4 @@
-use Rattle.std.proofs.Common.{◌≡◌, Bool, true, false, List, [], ◌∷◌, ◌++◌, map, ap, ◌∙◌, subst}
+use Rattle.std.proofs.Common.{◌≡◌, true, false, [], ◌∷◌, ◌++◌, map, ap, ◌∙◌, subst}
 use Rattle.std.specs.List.{list_any}
 use Rattle.aq_base.specs.Names.{Text, same_text}
 use Rattle.aq_setup.specs.Constraints.{NamedConstraint}
