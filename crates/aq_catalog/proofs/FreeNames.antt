@@ -1,5 +1,5 @@
 -- The search for a free name of a constraint ends, and finds the name of the definition.
-use Rattle.std.proofs.Common.{◌≡◌, ℕ, zero, suc, ◌+◌, ◌^◌, ◌<◌, ◌≤◌, Bool, true, false, ◌||◌, if◌then◌else◌, List, [], ◌∷◌, ◌++◌, length, Option, Some, None, unwrap_or, find, refl, ap, sym, ◌∙◌, subst, arith, not, ltb}
+use Rattle.std.proofs.Common.{◌≡◌, ℕ, zero, suc, ◌+◌, ◌^◌, ◌<◌, ◌≤◌, Bool, true, false, ◌||◌, if◌then◌else◌, List, [], ◌∷◌, ◌++◌, length, Some, unwrap_or, find, refl, ap, sym, ◌∙◌, subst, arith}
 use Rattle.std.specs.List.{list_any}
 use Rattle.std.specs.Fmt.{decimal}
 use Rattle.std.specs.Cmp.Lexicographic.{same_text as texts_same}
@@ -10,9 +10,6 @@ use Rattle.indexmap.proofs.IndexTableLemmas.Probe.{pigeonhole}
 use Rattle.aq_base.specs.Names.{Text, same_text, is_apart_from}
 use Rattle.aq_setup.specs.Constraints.{numbered, free_name}
 use Rattle.aq_catalog.specs.Taken.{AreTaken}
-
-same_is : (a b : Text) → same_text a b ≡ true → a ≡ b
-same_is a b h = texts_same a b (sym h)
 
 -- ---- texts that differ have different places in a list
 
@@ -36,7 +33,7 @@ same_place a b (x ∷ xs) in_a in_b same = by (same_text a x) refl (same_text b 
         → (if at_a then 0 else suc (place_of a xs)) ≡ (if at_b then 0 else suc (place_of b xs))
         → (list_any (same_text a) xs ≡ true → list_any (same_text b) xs ≡ true → place_of a xs ≡ place_of b xs → a ≡ b)
         → a ≡ b
-    by true is_a true is_b in_a in_b same deeper = same_is a x is_a ∙ sym (same_is b x is_b)
+    by true is_a true is_b in_a in_b same deeper = texts_same a x (sym is_a) ∙ sym (texts_same b x (sym is_b))
     by true is_a false is_b in_a in_b same deeper = absurd (omega (arith, same))
     by false is_a true is_b in_a in_b same deeper = absurd (omega (arith, same))
     by false is_a false is_b in_a in_b same deeper = deeper in_a in_b (omega (arith, same))

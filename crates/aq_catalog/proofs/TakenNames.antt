@@ -3,16 +3,12 @@ use Rattle.std.proofs.Common.{◌≡◌, ℕ, ◌≤◌, Bool, true, false, ◌|
 use Rattle.std.specs.List.{list_any}
 use Rattle.std.specs.Map.{lookup}
 use Rattle.std.specs.Fmt.{decimal}
-use Rattle.std.specs.Cmp.Lexicographic.{same_text as texts_same}
 use Rattle.std.proofs.lemmas.Cmp.{nat_list_eq_equiv}
 use Rattle.std.proofs.lemmas.Bool.{false≢true}
 use Rattle.std.proofs.lemmas.Option.{same_Some}
 use Rattle.std.proofs.lemmas.List.Folds.{list_any-append}
 use Rattle.aq_base.specs.Names.{Text, same_text}
 use Rattle.aq_catalog.specs.Taken.{AreTaken, HasAdded, IsSearched, entered}
-
-same_is : (a b : Text) → same_text a b ≡ true → a ≡ b
-same_is a b h = texts_same a b (sym h)
 
 flipped : (a b : Text) → same_text a b ≡ same_text b a
 flipped a b = nat_list_eq_equiv.symm a b

@@ -115,7 +115,7 @@ impl<'a> NamesTaken<'a> {
         add_to(&mut self.added, &mut self.next, name)
     }
 
-    /// A number from which on to search for one that makes a name free.
+    /// Where the search begins for a number to be put behind a name. With each lesser one the name is taken.
     fn start(&self, name: &TextVal) -> u64
         ensures positive { 1 ≤ result }
         ensures lesser { AreTaken self.now name.now result }
@@ -126,7 +126,7 @@ impl<'a> NamesTaken<'a> {
         }
     }
 
-    /// The first number from one on that makes a name free.
+    /// The first number, `start` or above, such that the name with it behind is free. The error is want of memory.
     fn first_free(&self, alloc: Global, name: &TextVal, start: u64) -> Result<u64, AllocError>
         requires taken { list_any (same_text name.now) self.now ≡ true }
         requires positive { 1 ≤ start }
@@ -142,6 +142,7 @@ impl<'a> NamesTaken<'a> {
         Ok(n)
     }
 
+    /// Has the next search for a number behind a name begin at this one, where the statement added the name.
     fn begin_at(&mut self, name: &TextVal, number: u64)
         requires positive { 1 ≤ number }
         requires lesser { AreTaken self.old name.now number }
@@ -150,7 +151,7 @@ impl<'a> NamesTaken<'a> {
         renumber(&mut self.next, name, number);
     }
 
-    /// The name where it is free, else the name with the first number behind it that makes it free. The error is want of memory.
+    /// The name where it is free, or else with the first number behind it that makes it free. The error is want of memory.
     pub(crate) fn free_name(&mut self, alloc: Global, name: TextVal) -> Result<TextVal, AllocError>
         ensures made { IfOk result (λ made. made ≡ constraints.free_name self.old name) }
         ensures kept { self.new ≡ self.old }
