@@ -145,7 +145,7 @@ fn primary_name(alloc: Global, table: &TextVal) -> Result<TextVal, AllocError>
     Ok(TextVal::from_string(text))
 }
 
-fn default_name(
+pub(crate) fn default_name(
     alloc: Global,
     table: &TextVal,
     constraint: &TableConstraint,
@@ -159,7 +159,7 @@ fn default_name(
     }
 }
 
-fn with_number(alloc: Global, name: &TextVal, n: u64) -> Result<TextVal, AllocError>
+pub(crate) fn with_number(alloc: Global, name: &TextVal, n: u64) -> Result<TextVal, AllocError>
     ensures { IfOk result (λ made. made ≡ name.now ++ decimal n) }
 {
     let mut text = String::from_str(alloc, name.as_str())?;
