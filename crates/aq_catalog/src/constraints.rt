@@ -142,7 +142,7 @@ fn primary_name(alloc: Global, table: &TextVal) -> Result<TextVal, AllocError>
     Ok(TextVal::from_string(text))
 }
 
-fn default_name(
+pub(crate) fn default_name(
     alloc: Global,
     table: &TextVal,
     constraint: &TableConstraint,

@@ -359,6 +359,7 @@ impl Catalog {
         ensures made { OnOk result (self.new ≡ tables.with_added (tables.altered self.old s.now)) }
         ensures kept { OnErr result (IsBehind self.old self.new) }
     {
+        self.settle_default_name(alloc, s)?;
         self.alter_table(alloc, s)
     }
 

@@ -40,7 +40,8 @@ impl<'a> Model for NamesTaken<'a> {
     ghost invariant = { λ n. HasAdded n.next.entries n.added × IsSearched n.next.entries (names_taken n.catalog.now n.table ++ n.added) };
 }
 
-fn with_number(alloc: Global, name: &TextVal, n: u64) -> Result<TextVal, AllocError>
+/// A name with a number behind it.
+pub(crate) fn with_number(alloc: Global, name: &TextVal, n: u64) -> Result<TextVal, AllocError>
     ensures { IfOk result (λ made. made ≡ name.now ++ decimal n) }
 {
     let mut text = String::from_str(alloc, name.as_str())?;
