@@ -9,7 +9,7 @@ use Rattle.std.proofs.lemmas.Fmt.{decimal_injective, decimal_nonempty}
 use Rattle.indexmap.proofs.IndexTableLemmas.Probe.{pigeonhole}
 use Rattle.aq_base.specs.Names.{Text, same_text, is_apart_from}
 use Rattle.aq_setup.specs.Constraints.{numbered, free_name}
-use Rattle.aq_catalog.specs.Taken.{AreTaken}
+use Rattle.aq_catalog.specs.Numbered.{AreTaken}
 
 -- ---- texts that differ have different places in a list
 

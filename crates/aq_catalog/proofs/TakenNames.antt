@@ -8,7 +8,8 @@ use Rattle.std.proofs.lemmas.Bool.{false≢true}
 use Rattle.std.proofs.lemmas.Option.{same_Some}
 use Rattle.std.proofs.lemmas.List.Folds.{list_any-append}
 use Rattle.aq_base.specs.Names.{Text, same_text}
-use Rattle.aq_catalog.specs.Taken.{AreTaken, HasAdded, IsSearched, entered}
+use Rattle.aq_catalog.specs.Numbered.{AreTaken}
+use Rattle.aq_catalog.specs.Taken.{HasAdded, IsSearched, entered}
 
 flipped : (a b : Text) → same_text a b ≡ same_text b a
 flipped a b = nat_list_eq_equiv.symm a b

@@ -1,13 +1,9 @@
 -- The names that the constraints of a table have, and those that a statement adds.
-use Rattle.std.specs.Prelude.{ℕ, ◌≡◌, ◌<◌, ◌≤◌, ◌&&◌, ◌++◌, true, List, Option, Some, if◌then◌else◌, is_some, unwrap_or}
+use Rattle.std.specs.Prelude.{ℕ, ◌≡◌, ◌≤◌, ◌&&◌, List, Option, Some, if◌then◌else◌, is_some, unwrap_or}
 use Rattle.std.specs.List.{list_any}
 use Rattle.std.specs.Map.{lookup}
-use Rattle.std.specs.Fmt.{decimal}
 use Rattle.aq_base.specs.Names.{Text, same_text}
-
--- a name with each number below n behind it is taken
-abbrev pub AreTaken : List Text → Text → ℕ → Type 0
-AreTaken taken name n = (k : ℕ) → 1 ≤ k → k < n → list_any (same_text (name ++ decimal k)) taken ≡ true
+use Rattle.aq_catalog.specs.Numbered.{AreTaken}
 
 -- the names in the index are those that were added
 abbrev pub HasAdded : List (Text × ℕ) → List Text → Type 0

@@ -24,9 +24,8 @@ use crate::lookups::is_taken;
 use crate::names::{columns_known, table_faults};
 use crate::old_new::{uses_new, uses_old};
 use crate::refusals::{
-    constraint_exists, native_misused, no_function, no_new_table, no_old_or_new,
-    no_old_table, over_limit, transition_columns, transition_events, trigger_exists,
-    trigger_reserved,
+    constraint_exists, native_misused, no_function, no_new_table, no_old_or_new, no_old_table,
+    over_limit, transition_columns, transition_events, trigger_exists, trigger_reserved,
 };
 use crate::scopes::{Setting, in_session, no_row};
 use crate::statements::{body_faults, condition_faults};

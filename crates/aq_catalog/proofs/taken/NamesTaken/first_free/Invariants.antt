@@ -1,5 +1,5 @@
 use Rattle.std.proofs.Common.{◌+◌, ◌-◌, ◌≤◌, length}
-use Rattle.aq_catalog.specs.Taken.{AreTaken}
+use Rattle.aq_catalog.specs.Numbered.{AreTaken}
 use Rattle.aq_catalog.proofs.taken.NamesTaken.first_free.Given as goal
 
 abbrev pub invariant-numbers : goal.invariant-numbers

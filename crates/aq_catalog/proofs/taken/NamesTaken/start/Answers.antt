@@ -1,5 +1,5 @@
 use Rattle.std.proofs.Common.{sym, subst}
-use Rattle.aq_catalog.specs.Taken.{AreTaken}
+use Rattle.aq_catalog.specs.Numbered.{AreTaken}
 use Rattle.aq_catalog.proofs.taken.NamesTaken.start.Goals as goal
 
 pub returns-in-Some-clause-positive : goal.returns-in-Some-clause-positive
