@@ -180,7 +180,7 @@ fn shorten_constraints(constraints: &mut Vec<Constraint>, names: &mut NameIndex,
     }
 }
 
-/// As many numbers as there were constraints, each 1: others may have been taken behind the mark.
+/// As many numbers as there were constraints, each 1, since names behind the mark may have made them larger.
 fn restart_numbers(numbers: &mut Vec<u64>, len: usize)
     ensures { numbers.new.items ≡ replicate (min len (length numbers.old.items)) 1 }
 {
