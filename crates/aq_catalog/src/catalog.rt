@@ -127,13 +127,6 @@ impl Catalog {
         self.triggers.as_slice()
     }
 
-    /// The constraints in the order in which they were made.
-    pub(crate) fn all_constraints(&self) -> &[Constraint]
-        ensures { result.now ≡ self.now.constraints }
-    {
-        self.constraints.as_slice()
-    }
-
     /// Whether a constraint can't be deferred.
     pub(crate) fn is_fixed(&self, con: ConNo) -> bool
         ensures { result ≡ fixed self.now con }
