@@ -1,5 +1,5 @@
 -- A fault that is told in a loop is the first of all.
-use Rattle.std.proofs.Common.{◌≡◌, ℕ, ◌<◌, List, ◌∷◌, ◌++◌, length, drop, map, get_or, ◌+◌, refl, ap, sym, ◌∙◌, subst}
+use Rattle.std.proofs.Common.{◌≡◌, ℕ, ◌<◌, List, [], ◌∷◌, ◌++◌, length, drop, map, get_or, ◌+◌, refl, ap, sym, ◌∙◌, subst}
 use Rattle.std.proofs.lemmas.List.{drop_more, map-append}
 use Rattle.std.specs.List.{flat_map}
 use Rattle.aq_base.specs.declared.fault.SqlFault.{SqlFault}
