@@ -64,7 +64,7 @@ impl Catalog {
     }
 
     /// Remembers where the search for another name like that of a table's constraint begins. The error is want of memory.
-    pub(crate) fn settle_number(
+    fn settle_number(
         &mut self,
         alloc: Global,
         table: Option<usize>,
