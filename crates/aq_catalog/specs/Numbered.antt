@@ -1,9 +1,10 @@
 -- The numbers at which the search for a free name of a constraint begins.
-use Rattle.std.specs.Prelude.{ℕ, Bool, true, false, ◌≡◌, ◌<◌, ◌≤◌, ◌==◌, ◌++◌, List, Some, None, filter, length, map, slice_get, slice_index_or}
+use Rattle.std.specs.Prelude.{ℕ, Bool, true, ◌≡◌, ◌<◌, ◌≤◌, ◌==◌, ◌++◌, List, Some, filter, length, map, slice_get, slice_index_or}
 use Rattle.std.specs.List.{list_any}
 use Rattle.std.specs.Fmt.{decimal}
 use Rattle.aq_base.specs.Names.{Text, same_text}
 use Rattle.aq_bound.specs.declared.catalog.Constraint.{Constraint}
+use Rattle.aq_catalog.specs.Indexed.{passes}
 
 -- the names of a table's constraints
 abbrev pub names_in : List Constraint → ℕ → List Text
@@ -15,7 +16,7 @@ AreTaken names name number = (k : ℕ) → 1 ≤ k → k < number → list_any (
 
 -- whether a constraint of a table stands at a place
 abbrev pub is_of : List Constraint → ℕ → ℕ → Bool
-is_of constraints table place = elim (slice_get constraints place) [ None ↦ false | Some con ↦ con.table == table ]
+is_of constraints table place = passes (λ con. con.table == table) (slice_get constraints place)
 
 -- each constraint has a number, and its table has the name of the constraint with each lesser one behind it
 pub record IsNumbered (constraints : List Constraint) (numbers : List ℕ) : Type 0 where

@@ -158,7 +158,8 @@ fn is_of(constraint: &Constraint, table: usize) -> bool
     usize::from(constraint.table.get()) == table
 }
 
-fn is_of_at(made: &[Constraint], place: usize, table: usize) -> bool
+/// Whether a constraint of the table stands at a place.
+pub(crate) fn is_of_at(made: &[Constraint], place: usize, table: usize) -> bool
     ensures { result ≡ passes (λ con. con.table == table) (slice_get made.now place) }
 {
     match made.get(place) {

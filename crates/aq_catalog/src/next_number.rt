@@ -10,7 +10,7 @@ ghost use Rattle.aq_catalog.specs.Numbered.{AreTaken, is_of};
 
 use crate::catalog::Catalog;
 use crate::constraints::default_name;
-use crate::lookups::is_taken;
+use crate::lookups::{is_of_at, is_taken};
 use crate::taken::with_number;
 use aq_base::{AlterTable, TableConstraint, TextVal};
 use aq_bound::Constraint;
@@ -118,22 +118,13 @@ impl Catalog {
     }
 }
 
-fn is_of(constraints: &[Constraint], table: usize, place: usize) -> bool
-    ensures { result ≡ is_of constraints.now table place }
-{
-    match constraints.get(place) {
-        None => false,
-        Some(con) => usize::from(con.table.get()) == table,
-    }
-}
-
 fn first_of_table(constraints: &[Constraint], table: usize, places: &[u16]) -> Option<usize>
     ensures { result ≡ find (is_of constraints.now table) places.now }
 {
     places
         .iter()
         .map(|place| usize::from(*place))
-        .find(|place| is_of(constraints, table, *place))
+        .find(|place| is_of_at(constraints, *place, table))
 }
 
 fn number_at(numbers: &[u64], place: usize) -> u64
