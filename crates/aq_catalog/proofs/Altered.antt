@@ -2,12 +2,11 @@
 use Rattle.std.proofs.Common.{◌≡◌, ℕ, List, [], ◌++◌, Some, Result, slice_get, ap, sym, ◌∙◌, subst}
 use Rattle.std.proofs.lemmas.List.{append-nil}
 use Rattle.std.proofs.lemmas.Option.{same_Some}
-use Rattle.aq_base.specs.declared.fault.SqlFault.{SqlFault}
 use Rattle.aq_base.specs.declared.table.AlterTable.{AlterTable}
 use Rattle.aq_setup.specs.Catalogs.{Catalog}
 use Rattle.aq_setup.specs.Constraints.{NamedConstraint, name_of}
 use Rattle.aq_setup.specs.Scopes.{number_of_table}
-use Rattle.aq_setup.specs.Tables.{Referring, altered, names_taken, referring_of, with_constraint_key}
+use Rattle.aq_setup.specs.Tables.{altered, names_taken, referring_of, with_constraint_key}
 use Rattle.aq_setup.specs.Catalogs.{table_number}
 use Rattle.aq_catalog.specs.declared.fault.CatFault.{CatFault}
 use Rattle.aq_catalog.specs.Answers.{Tells}

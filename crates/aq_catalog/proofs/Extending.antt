@@ -1,5 +1,5 @@
 -- What the steps of a statement leave as it was.
-use Rattle.std.proofs.Common.{◌≡◌, ℕ, ◌≤◌, List, [], ◌∷◌, ◌++◌, Option, Some, None, length, map, take, drop, slice_get, slice_set, refl, ap, sym, ◌∙◌, subst, append_assoc}
+use Rattle.std.proofs.Common.{◌≡◌, ℕ, List, [], ◌∷◌, ◌++◌, Option, Some, None, length, map, take, drop, slice_get, slice_set, refl, ap, sym, ◌∙◌, subst, append_assoc}
 use Rattle.std.proofs.lemmas.List.{take-append-drop, take-set}
 use Rattle.std.proofs.Math.Seq.{take-length, take-append_seam}
 use Rattle.aq_base.specs.Names.{Text}

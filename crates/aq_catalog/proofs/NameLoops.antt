@@ -1,7 +1,6 @@
 -- The first fault of the elements of a list, one after the other.
-use Rattle.std.proofs.Common.{◌≡◌, refl, ap, sym, subst, ◌∙◌, ℕ, zero, suc, ◌+◌, ◌<◌, arith, add-one, List, [], ◌∷◌, ◌++◌, append_assoc, map, take, get_or, length}
-use Rattle.std.specs.List.{flat_map}
-use Rattle.std.proofs.lemmas.List.{map-append, append-nil}
+use Rattle.std.proofs.Common.{◌≡◌, refl, ap, sym, subst, ◌∙◌, ℕ, zero, suc, ◌+◌, ◌<◌, arith, add-one, List, [], ◌∷◌, ◌++◌, append_assoc, take, get_or, length}
+use Rattle.std.proofs.lemmas.List.{append-nil}
 use Rattle.aq_base.specs.declared.fault.SqlFault.{SqlFault}
 use Rattle.aq_catalog.specs.declared.fault.CatFault.{CatFault}
 use Rattle.aq_catalog.specs.Answers.{IsFault}

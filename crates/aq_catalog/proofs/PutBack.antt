@@ -1,5 +1,5 @@
 -- A trigger that was added is taken away again.
-use Rattle.std.proofs.Common.{◌≡◌, [], ◌∷◌, ◌++◌, length, ap, ◌∙◌, arith}
+use Rattle.std.proofs.Common.{◌≡◌, [], ◌∷◌, ◌++◌, ap, ◌∙◌, arith}
 use Rattle.aq_bound.specs.declared.catalog.Trigger.{Trigger}
 use Rattle.aq_setup.specs.Catalogs.{Catalog}
 use Rattle.aq_catalog.specs.declared.mark.Mark.{Mark}

@@ -1,5 +1,5 @@
 -- The faults of CREATE TABLE and ALTER TABLE in the stages in which the catalog changes: without the table, with it, and with the keys.
-use Rattle.std.specs.Prelude.{ℕ, ◌+◌, ◌≡◌, codes, if◌then◌else◌, map, nat_le, List, [], ◌∷◌, ◌++◌, Option, Some, Result, Ok, Err, length}
+use Rattle.std.specs.Prelude.{ℕ, ◌+◌, ◌≡◌, codes, if◌then◌else◌, map, nat_le, List, [], ◌∷◌, ◌++◌, Option, Some, length}
 use Rattle.std.specs.List.{flat_map}
 use Rattle.aq_base.specs.declared.fault.SqlFault.{SqlFault}
 use Rattle.aq_base.specs.declared.table.CreateTable.{CreateTable}

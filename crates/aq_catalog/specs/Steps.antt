@@ -1,5 +1,5 @@
 -- The steps by which a statement changes the catalog, and what they leave as it was.
-use Rattle.std.specs.Prelude.{ℕ, ◌≡◌, Bool, if◌then◌else◌, List, [], ◌∷◌, ◌++◌, Option, Some, None, length, map, take, unwrap_or}
+use Rattle.std.specs.Prelude.{ℕ, ◌≡◌, Bool, if◌then◌else◌, List, [], ◌∷◌, Option, Some, None, length, map, take, unwrap_or}
 use Rattle.std.specs.List.{flat_map}
 use Rattle.aq_base.specs.Names.{Text}
 use Rattle.aq_base.specs.declared.catalog.Op.TheVariants as ops

@@ -4,7 +4,7 @@
 ghost use Rattle.std.specs.Prelude.{◌≡◌, ◌+◌, [], ◌∷◌, ◌++◌, if◌then◌else◌, codes, filter, map, length, nat_le, not, unwrap_or, IfOk, OnOk};
 ghost use Rattle.std.specs.List.{flat_map};
 ghost use Rattle.aq_base.specs.Names.{is_short as short};
-ghost use Rattle.aq_setup.specs.Names.{table_faults as absent, unknown};
+ghost use Rattle.aq_setup.specs.Names.{table_faults as absent};
 ghost use Rattle.aq_setup.specs.References as references;
 ghost use Rattle.aq_setup.specs.Scopes.{repeats_behind};
 ghost use Rattle.aq_setup.specs.Tables as tables;
@@ -23,7 +23,6 @@ use crate::refusals::{column_twice, constraint_exists, long_name, many_primary_k
 use crate::scopes::in_session;
 use crate::taken::NamesTaken;
 use aq_base::{List, Reference, TableConstraint, TextVal};
-use aq_bound::Column;
 use std::alloc::{AllocError, Global};
 use std::marker::Model;
 

@@ -1,6 +1,6 @@
 //! The catalog that the setup of a script makes.
 
-ghost use Rattle.std.specs.Prelude.{◌≡◌, Ok, IfOk, IfErr, OnOk, OnErr};
+ghost use Rattle.std.specs.Prelude.{◌≡◌, Ok, IfOk, IfErr, OnOk};
 ghost use Rattle.aq_setup.specs.Setup as setup;
 ghost use Rattle.aq_catalog.specs.Built.{IsAtLine, IsRefusedAt, IsSetupFault};
 

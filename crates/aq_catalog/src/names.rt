@@ -1,11 +1,9 @@
 //! The faults of the names in a statement, from left to right (PostgreSQL source, parse_relation.c, parse_target.c).
 #![tactic(auto, using(crate::proofs::Telling::first_stays, crate::proofs::Telling::memory_ran_out, crate::proofs::Telling::fault_is_told, crate::proofs::Loops::fault_at, crate::proofs::Loops::mapped_fault_at))]
 
-ghost use Rattle.std.specs.Prelude.{◌≡◌, [], ◌∷◌, ◌++◌, map};
-ghost use Rattle.std.specs.List.{flat_map, list_any};
-ghost use Rattle.aq_base.specs.Names.{same_text};
+ghost use Rattle.std.specs.Prelude.{◌≡◌, [], ◌++◌, map};
+ghost use Rattle.std.specs.List.{flat_map};
 ghost use Rattle.aq_setup.specs.Faults as faults;
-ghost use Rattle.std.specs.Option.{option_copied};
 ghost use Rattle.aq_setup.specs.Catalogs.{column_number};
 ghost use Rattle.aq_setup.specs.Names as names;
 ghost use Rattle.aq_setup.specs.Scopes.{query_scope};

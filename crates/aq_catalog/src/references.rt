@@ -1,7 +1,7 @@
 //! What a foreign key refers to, and its faults (PostgreSQL source, tablecmds.c, ATAddForeignKeyConstraint). The catalog has the keys of
 //! the statement itself.
 
-ghost use Rattle.std.specs.Prelude.{◌≡◌, IfOk, option_map, slice_get, zip};
+ghost use Rattle.std.specs.Prelude.{◌≡◌, IfOk, zip};
 ghost use Rattle.std.specs.List.{list_all};
 ghost use Rattle.aq_setup.specs.Scopes.{number_of_column};
 ghost use Rattle.aq_setup.specs.Catalogs.{primary_cols, is_number_in};

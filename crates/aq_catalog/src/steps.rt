@@ -1,10 +1,8 @@
 //! The steps by which a CREATE TABLE and an ALTER TABLE change the catalog.
 #![tactic(auto, using(crate::proofs::Extending::extends_itself, crate::proofs::Extending::follows_extended, crate::proofs::Extending::follows_itself))]
 
-ghost use Rattle.std.specs.Prelude.{◌≡◌, ◌+◌, ◌-◌, ◌||◌, [], ◌∷◌, ◌++◌, codes, length, map, replicate, slice_get, string_bytes, unwrap_or, Some, IfOk, OnOk, OnErr};
-ghost use Rattle.std.specs.Fmt.{decimal};
+ghost use Rattle.std.specs.Prelude.{◌≡◌, ◌+◌, ◌-◌, ◌||◌, [], ◌∷◌, ◌++◌, length, map, slice_get, string_bytes, unwrap_or, Some, IfOk, OnOk, OnErr};
 ghost use Rattle.std.specs.List.{enumerate_from};
-ghost use Rattle.std.specs.Option.{option_copied};
 ghost use Rattle.aq_setup.specs.Scopes.{number_of_column};
 ghost use Rattle.aq_setup.specs.Catalogs as catalogs;
 ghost use Rattle.aq_setup.specs.References as references;

@@ -1,7 +1,7 @@
 //! The table that a CREATE TABLE makes, and the faults of its columns (PostgreSQL manual, page CREATE TABLE).
 #![tactic(auto, using(crate::proofs::Telling::first_stays, crate::proofs::Telling::memory_ran_out, crate::proofs::Telling::fault_is_told, crate::proofs::Loops::fault_at))]
 
-ghost use Rattle.std.specs.Prelude.{◌≡◌, [], ◌∷◌, ◌++◌, if◌then◌else◌, codes, length, map, nat_le, nat_lt, IfOk, OnOk};
+ghost use Rattle.std.specs.Prelude.{◌≡◌, [], ◌∷◌, ◌++◌, if◌then◌else◌, codes, map, nat_le, IfOk, OnOk};
 ghost use Rattle.std.specs.List.{flat_map, list_any};
 ghost use Rattle.aq_setup.specs.Catalogs.{places};
 ghost use Rattle.aq_setup.specs.Kinds as kinds;

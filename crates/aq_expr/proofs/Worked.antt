@@ -1,5 +1,5 @@
 -- Values of small expressions.
-use Rattle.std.proofs.Common.{◌≡◌, ℤ, ◌-◌, ◌^◌, Bool, true, false, Some, None, Ok, Err, pos, refl, ap, ap₂, ◌∙◌, codes}
+use Rattle.std.proofs.Common.{◌≡◌, ℤ, Bool, true, false, Ok, Err, pos, refl, ap, ap₂, ◌∙◌, codes}
 use Rattle.aq_base.specs.declared.value.Value.{Value}
 use Rattle.aq_base.specs.declared.value.Value.TheVariants as values
 use Rattle.aq_base.specs.declared.script.Kind.TheVariants as kinds

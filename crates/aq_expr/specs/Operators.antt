@@ -7,7 +7,7 @@ use Rattle.std.specs.Cmp.Lexicographic.{slice_cmp}
 use Rattle.aq_base.specs.declared.value.Value.{Value}
 use Rattle.aq_base.specs.declared.value.Value.TheVariants.{Null, Bool as Truth, Int, Text}
 use Rattle.aq_base.specs.declared.script.Kind.{Kind}
-use Rattle.aq_base.specs.declared.script.Kind.TheVariants.{Integer, Bigint, Boolean, Text as Texts}
+use Rattle.aq_base.specs.declared.script.Kind.TheVariants.{Integer, Bigint}
 use Rattle.aq_base.specs.declared.expr.Comparison.{Comparison}
 use Rattle.aq_base.specs.declared.expr.Comparison.TheVariants.{Equal, Unequal, Less, AtMost, Greater, AtLeast}
 use Rattle.aq_base.specs.declared.catalog.Op.{Op}

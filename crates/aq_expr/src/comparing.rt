@@ -3,7 +3,6 @@
 ghost use Rattle.std.specs.Prelude.{◌≡◌, Option, Some, None};
 ghost use Rattle.std.specs.Ordering.{nat_cmp};
 ghost use Rattle.std.specs.Cmp.Lexicographic.{slice_cmp};
-ghost use Rattle.aq_base.specs.Values.{is_null};
 ghost use Rattle.aq_expr.specs.Operators.{with_value, with_both, order_of, holds, comparison_of, null_test_of, not_null_test_of, is_same, distinct_of, not_distinct_of};
 
 use crate::fault::Answer;

@@ -1,5 +1,5 @@
 -- Statements on transaction blocks and savepoints are printed freely.
-use Rattle.std.proofs.Common.{◌≡◌, true, List, [], ◌∷◌, map, Some, None, codes, inl, inr, refl, sym, ◌∙◌, subst}
+use Rattle.std.proofs.Common.{◌≡◌, true, List, [], ◌∷◌, map, None, codes, inl, inr, refl, sym, ◌∙◌, subst}
 use Rattle.std.specs.Char.{to_ascii_lowercase}
 use Rattle.aq_base.specs.Names.{Text as Bytes, same_text}
 use Rattle.aq_base.specs.declared.statement.Isolation.{Isolation}

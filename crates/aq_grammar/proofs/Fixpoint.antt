@@ -5,7 +5,6 @@ use Rattle.aq_base.specs.Names.{Text as Bytes}
 use Rattle.aq_base.specs.declared.fault.SqlFault.{SqlFault}
 use Rattle.aq_lex.specs.Lexemes.{PlacedLexeme}
 use Rattle.aq_grammar.specs.Rules.{Nonterminal, ValueOf, Refusal, Rule, Done, Token, Both, Either, Many, Differing, Call, Unless, Limited, Form, Bar, SpellsBoth, SpellsEach, SpellsOther, SpellsBy, BarsBoth, BarsMany, BarsNext, BarsBy, Begins}
-use Rattle.aq_grammar.proofs.Languages.{IsSpelled}
 use Rattle.aq_grammar.specs.Calls.{Rules, CalledWithin, Called, BarredWithin, BarsCalled}
 
 -- whatever the one form spells, the other spells too

@@ -1,19 +1,15 @@
 -- No subquery stands in a statement of a script: in no rule of the grammar may a `(` be met by SELECT.
-use Rattle.std.proofs.Common.{◌≡◌, refl, ℕ, zero, suc, Bool, true, false, List, [], ◌∷◌, ◌++◌}
-use Rattle.std.proofs.lemmas.Bool.{or_left}
-use Rattle.aq_base.specs.declared.statement.Statement.{Statement}
-use Rattle.aq_lex.specs.declared.token.Symbol.TheVariants.{OpenParen}
+use Rattle.std.proofs.Common.{◌≡◌, refl, ℕ, zero, suc, Bool, true, false, List, ◌++◌}
 use Rattle.aq_lex.specs.Lexemes.{PlacedLexeme}
-use Rattle.aq_grammar.specs.Terminals.{Sign, fits, is_of}
+use Rattle.aq_grammar.specs.Terminals.{is_of}
 use Rattle.aq_grammar.specs.Rules.{Nonterminal, Rule, Begins, Expression, Block, ColumnConstraints, ReferenceEnd}
 use Rattle.aq_grammar.specs.declared.scope.Scope.{Scope}
 use Rattle.aq_grammar.specs.declared.scope.Scope.TheVariants.{InStatement, InCondition, InCode}
-use Rattle.aq_grammar.specs.Sets.{is_fit_by, are_apart}
+use Rattle.aq_grammar.specs.Sets.{is_fit_by}
 use Rattle.aq_grammar.specs.Pairs.{HasSubquery, ends_by, has_no_subquery_by}
 use Rattle.aq_grammar.specs.Nonterminals.{rules, marks, ends, Spells}
-use Rattle.aq_grammar.proofs.Apart.{are_apart_sound}
 use Rattle.aq_grammar.proofs.Fit.{are_among, are_among_sound, rules_fit, session_statement_fits, setup_statement_fits}
-use Rattle.aq_grammar.proofs.Pairs.{subquery_of_beginning, ended_rule, no_subquery_rule}
+use Rattle.aq_grammar.proofs.Pairs.{subquery_of_beginning, no_subquery_rule}
 use Rattle.aq_grammar.specs.Forms.{name, names, public_name}
 use Rattle.aq_grammar.specs.Expressions as e
 use Rattle.aq_grammar.specs.Changes as c

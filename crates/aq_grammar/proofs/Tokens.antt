@@ -14,7 +14,7 @@ use Rattle.aq_lex.specs.declared.token.Symbol.TheVariants.{OpenParen, CloseParen
 use Rattle.aq_lex.specs.declared.token.Directive.{Directive as DirectiveName}
 use Rattle.aq_lex.specs.declared.token.Directive.TheVariants.{Setup, Session, Schedule}
 use Rattle.aq_lex.specs.declared.token.TokenKind.TheVariants as kinds
-use Rattle.aq_lex.specs.Lexemes.{PlacedLexeme, Lexeme, Word, QuotedName, Integer, Text, Symbol, Directive, first_kind, first_text, first_integer, first_is_word, kind_of, small}
+use Rattle.aq_lex.specs.Lexemes.{PlacedLexeme, Lexeme, Word, QuotedName, Integer, Text, Symbol, Directive, first_kind, first_integer, first_is_word, kind_of, small}
 use Rattle.aq_lex.specs.Lexemes as lexemes
 use Rattle.aq_grammar.specs.Terminals.{Terminal, begins, begin_with, fits, Keyword, Sign, Name, NameOf, NameBut, PlainName, Number, Count, Literal, LiteralInCode, Message, Heading, is_of_kind, is_name_word, is_literal, is_literal_in_code, is_message, is_plain_name, name_is, text_is, symbol_is, directive_is, holds, text_of, lexeme_text, lexeme_number, number_of, same_symbol, symbol_number, same_directive, directive_number}
 use Rattle.aq_grammar.specs.Reading.{Outcome, Read, Stop, Syntax, read_token}

@@ -1,6 +1,6 @@
 //! Reading one token.
 
-ghost use Rattle.std.specs.Prelude.{◌≡◌, ◌∷◌, [], ℕ, pos, Option, Some, None, false, not, codes, length, map, nat_le, IfOk, option_map, unwrap_or, if◌then◌else◌};
+ghost use Rattle.std.specs.Prelude.{◌≡◌, ◌∷◌, [], pos, Option, Some, None, false, not, length, map, nat_le, IfOk, option_map, unwrap_or, if◌then◌else◌};
 ghost use Rattle.std.specs.List.{list_any};
 ghost use Rattle.aq_base.specs.Names.{reserved_words};
 ghost use Rattle.aq_lex.specs.Lexemes.{first_is_word, first_text};

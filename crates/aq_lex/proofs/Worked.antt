@@ -5,7 +5,7 @@ use Rattle.aq_lex.specs.declared.token.Directive.TheVariants.{Session}
 use Rattle.aq_lex.specs.declared.token.TokenKind.TheVariants.{Word, Integer, Symbol, Directive}
 use Rattle.aq_lex.specs.Tokens.{Lexes, Starts, BehindBlank, BehindToken, beginning}
 use Rattle.aq_lex.specs.Lexemes as values
-use Rattle.aq_lex.specs.Lexemes.{lexemes, unquoted, number_of, line_at}
+use Rattle.aq_lex.specs.Lexemes.{lexemes, unquoted, number_of}
 
 -- an integer and a word
 digit_and_word : Lexes (codes "1a") (record { kind = Integer; from = 0; to = 1 } ∷ record { kind = Word; from = 1; to = 2 } ∷ [])

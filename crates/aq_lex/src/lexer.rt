@@ -1,6 +1,6 @@
 //! From bytes to tokens.
 
-ghost use Rattle.std.specs.Prelude.{◌≡◌, ◌++◌, OnOk, OnErr, IfOk, IfErr};
+ghost use Rattle.std.specs.Prelude.{◌≡◌, ◌++◌, OnOk, IfOk, IfErr};
 ghost use Rattle.aq_lex.specs.Tokens.{Lexes, NoTokenAt, IfBadToken};
 ghost use Rattle.aq_lex.specs.Lexing.{is_first_behind, tokens_of};
 

@@ -2,7 +2,7 @@
 
 ghost use Rattle.std.specs.Prelude.{◌≡◌, ◌<◌, ◌≤◌, false, ◌∷◌, length, IfSome};
 ghost use Rattle.std.specs.Str.{is_utf8};
-ghost use Rattle.aq_lex.specs.Tokens.{is_blank, begins_word, goes_on_in_word, is_in_line};
+ghost use Rattle.aq_lex.specs.Tokens.{is_blank, begins_word, goes_on_in_word};
 ghost use Rattle.aq_lex.specs.Lexing.{is_of_class, front_len, quote_end, literal_len, name_at, text_at, comment_at, directive_at, long_symbol, short_symbol, long_symbol_at, longer_symbol, begins_with, mark_at, literal_at, piece_at};
 
 use crate::piece::{Class, Piece};

@@ -1,6 +1,6 @@
 ghost use Rattle.std.specs.Prelude.{◌≡◌, List as Items, [], map, find, slice_get, Some, None, IfOk, option_map, not, if◌then◌else◌};
 ghost use Rattle.aq_base.specs.Values.{has_no_null, is_null, values_at};
-ghost use Rattle.aq_outcomes.specs.Rows.{insert_fault, duplicate_fault, is_taken, holds_null, not_null_cols, null_or};
+ghost use Rattle.aq_outcomes.specs.Rows.{insert_fault, duplicate_fault, is_taken, holds_null, not_null_cols};
 ghost use Rattle.aq_outcomes.specs.Faults.Fault.{Duplicate};
 ghost use Rattle.aq_outcomes.specs.References.{is_live, child_check, look_for_parent, parent_check, key_in};
 ghost use Rattle.aq_base.specs.Maps.{at};
@@ -16,8 +16,7 @@ use crate::view::view_has_row;
 use crate::world::World;
 use crate::writes::{Event, Write, newest_write};
 use aq_base::{
-    ColNo, Copies, Does, FkNo, ForeignKey, Key, List, NoMemory, Row, TabNo, UniqueKey, Value,
-    key_of,
+    ColNo, Copies, Does, ForeignKey, Key, List, NoMemory, Row, TabNo, UniqueKey, Value, key_of,
 };
 
 /// Why a step is refused, with what it found.

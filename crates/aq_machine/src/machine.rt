@@ -1,4 +1,4 @@
-ghost use Rattle.std.specs.Prelude.{◌≡◌, ◌&&◌, not, true, ◌≤◌, length, map, OnOk, OnErr, IfOk};
+ghost use Rattle.std.specs.Prelude.{◌≡◌, true, ◌≤◌, length, map, OnOk, OnErr, IfOk};
 ghost use Rattle.aq_base.specs.Scripts.{fits_first_language};
 ghost use Rattle.aq_base.specs.Setup.{program_of, catalog_of, bound_statements};
 ghost use Rattle.aq_run.specs.States.{opening, session_at, last_database};

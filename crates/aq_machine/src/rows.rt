@@ -1,5 +1,4 @@
-ghost use Rattle.std.specs.Prelude.{◌≡◌, [], map, OnOk, OnErr, IfOk};
-ghost use Rattle.aq_base.specs.declared.catalog.Op.{Op as Change_kind};
+ghost use Rattle.std.specs.Prelude.{◌≡◌, [], OnOk, OnErr, IfOk};
 ghost use Rattle.aq_outcomes.specs.Rows.{fires_on, same_op};
 ghost use Rattle.std.specs.List.{list_any};
 ghost use Rattle.aq_run.specs.States.{last_database};

@@ -1,4 +1,4 @@
-ghost use Rattle.std.specs.Prelude.{◌≡◌, ◌+◌, ◌++◌, ◌∷◌, [], List, Some, None, false, map, OnOk, OnErr, IfOk, option_copied};
+ghost use Rattle.std.specs.Prelude.{◌≡◌, ◌+◌, ◌++◌, [], List, Some, None, false, map, OnOk, OnErr, IfOk, option_copied};
 ghost use Rattle.aq_base.specs.Catalogs.{Catalog as Catalog_value};
 ghost use Rattle.aq_run.specs.Effects.{given};
 ghost use Rattle.aq_run.specs.States.{last_database};

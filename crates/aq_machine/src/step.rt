@@ -4,7 +4,7 @@ ghost use Rattle.aq_machine.specs.Givens.{given_shown};
 ghost use Rattle.aq_machine.specs.Orders.{IsOrdered, view_with};
 ghost use Rattle.aq_run.specs.Effects.{given};
 ghost use Rattle.aq_run.specs.Replies.{answer_lines, error_lines};
-ghost use Rattle.aq_run.specs.Steps.{after_error, close_plan};
+ghost use Rattle.aq_run.specs.Steps.{after_error};
 ghost use Rattle.aq_run.specs.States.Block.{Idle};
 ghost use Rattle.aq_run.specs.States.Task.{Rounds, Committing};
 ghost use Rattle.aq_machine.specs.Found.{fault_shown};

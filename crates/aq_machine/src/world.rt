@@ -1,8 +1,7 @@
-ghost use Rattle.std.specs.Prelude.{◌≡◌, ◌&&◌, ◌==◌, ◌++◌, ◌∷◌, ◌+◌, ◌≤◌, [], map, filter, length, vec_len, vec_capacity, option_map, OnOk, OnErr, IfOk};
+ghost use Rattle.std.specs.Prelude.{◌≡◌, ◌&&◌, ◌==◌, ◌++◌, ◌∷◌, ◌+◌, ◌≤◌, [], map, filter, vec_len, vec_capacity, option_map, OnOk, OnErr, IfOk};
 ghost use Rattle.std.specs.List.{list_any};
 ghost use Rattle.aq_base.specs.Maps.{at};
 ghost use Rattle.aq_base.specs.Databases.{has_key, rows_of};
-ghost use Rattle.aq_base.specs.Writes.{overlay};
 ghost use Rattle.aq_run.specs.States.{last_database};
 ghost use Rattle.aq_run.specs.Texts.{table_rows};
 ghost use Rattle.aq_machine.specs.Givens.{given_shown};

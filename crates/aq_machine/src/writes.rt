@@ -1,4 +1,4 @@
-ghost use Rattle.std.specs.Prelude.{◌≡◌, ◌<◌, ◌==◌, ◌&&◌, map, option_map, vec_len, vec_capacity, filter, slice_get, IfOk, OnOk, OnErr, ◌++◌};
+ghost use Rattle.std.specs.Prelude.{◌≡◌, ◌<◌, ◌==◌, ◌&&◌, map, option_map, vec_len, vec_capacity, filter, slice_get, OnOk, ◌++◌};
 ghost use Rattle.std.specs.List.{list_any};
 ghost use Rattle.aq_base.specs.Maps.{at, with_at};
 ghost use Rattle.aq_machine.specs.Versions.{write_entry, write_shown, write_has, image_has, is_new_in, is_unwritten, place_in, is_of_row};

@@ -1,6 +1,6 @@
 -- The check that a child row has a parent, and the one that a parent row that went has no child left
 -- (PostgreSQL source, ri_triggers.c, RI_FKey_check, RI_FKey_noaction_del).
-use Rattle.std.specs.Prelude.{◌≡◌, ℕ, Bool, true, false, ◌==◌, List, [], Option, Some, None, if◌then◌else◌}
+use Rattle.std.specs.Prelude.{ℕ, Bool, false, ◌==◌, List, [], Option, Some, None, if◌then◌else◌}
 use Rattle.std.specs.List.{list_any}
 use Rattle.aq_base.specs.Values.{Row, values_at, has_no_null}
 use Rattle.aq_base.specs.Maps.{at}

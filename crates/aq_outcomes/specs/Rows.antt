@@ -1,5 +1,5 @@
 -- One row change, and the events that it queues (PostgreSQL source, nbtinsert.c, _bt_check_unique; trigger.c, AfterTriggerSaveEvent).
-use Rattle.std.specs.Prelude.{ℕ, ◌+◌, Bool, true, false, ◌&&◌, ◌||◌, ◌==◌, List, [], ◌∷◌, map, Option, Some, None, find, if◌then◌else◌, not, unwrap_or, slice_get}
+use Rattle.std.specs.Prelude.{ℕ, ◌+◌, Bool, true, false, ◌&&◌, ◌==◌, List, [], ◌∷◌, map, Option, Some, None, find, if◌then◌else◌, not, unwrap_or, slice_get}
 use Rattle.std.specs.List.{list_any}
 use Rattle.aq_base.specs.Values.{Row, values_at, is_null}
 use Rattle.aq_base.specs.Catalogs.{Catalog}

@@ -20,7 +20,7 @@ use Rattle.aq_grammar.specs.Steps.{Fails, RefusesSo}
 use Rattle.aq_grammar.proofs.Fit.{rules_fit}
 use Rattle.aq_grammar.proofs.Fuel.{Shortens, shortens_at_least, shortens_if_any, called_shortens, token_shortens, both_shortens, each_shortens, limited_shortens, shortens_by, called_shortens_by}
 use Rattle.aq_grammar.proofs.Grammar.{is_read_so}
-use Rattle.aq_grammar.proofs.Loops.{Stands, goes_on_with, fails_with, ends_with_all, some_tokens, many_begin, is_free, refuses_with}
+use Rattle.aq_grammar.proofs.Loops.{Stands, goes_on_with, fails_with, some_tokens, many_begin, is_free, refuses_with}
 use Rattle.aq_parse.specs.Bodies.{condition_then, ended_statement, else_ifs}
 
 -- what is left is no longer, or shorter, than what there was

@@ -1,13 +1,12 @@
 //! Columns of a table: their kinds and constraints (PostgreSQL manual, page CREATE TABLE).
 
-ghost use Rattle.std.specs.Prelude.{◌≡◌, [], ◌∷◌};
 ghost use Rattle.aq_grammar.specs.Nonterminals.{reads};
 ghost use Rattle.aq_grammar.specs.Steps.{Gives};
 ghost use Rattle.aq_grammar.specs.Tables.{kind, constant, negative};
 
 use crate::words::says;
 use aq_base::{Kind, Value};
-use aq_grammar::{Read, Scope, is_literal, is_symbol, is_word, literal, number, sign, word};
+use aq_grammar::{Read, Scope, is_literal, is_symbol, is_word, literal, number, sign};
 use aq_lex::{Lexed, Symbol};
 use std::alloc::Global;
 

@@ -1,6 +1,5 @@
 //! INSERT (PostgreSQL manual, page INSERT).
 
-ghost use Rattle.std.specs.Prelude.{◌∷◌, []};
 ghost use Rattle.aq_lex.specs.declared.token.Symbol.TheVariants.{OpenParen, CloseParen};
 ghost use Rattle.aq_grammar.specs.Nonterminals.{reads};
 ghost use Rattle.aq_grammar.specs.Changes.{row_values, source, column_list, insert};

@@ -1,6 +1,6 @@
 //! What a foreign key refers to, and what becomes of its rows (PostgreSQL manual, page CREATE TABLE, REFERENCES).
 
-ghost use Rattle.std.specs.Prelude.{◌≡◌, [], ◌∷◌};
+ghost use Rattle.std.specs.Prelude.{◌≡◌};
 ghost use Rattle.aq_grammar.specs.Nonterminals.{reads};
 ghost use Rattle.aq_grammar.specs.Steps.{Gives};
 ghost use Rattle.aq_grammar.specs.Tables.{matching, setting, action, action_on, actions, target, reference_of};

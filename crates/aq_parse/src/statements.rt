@@ -1,6 +1,5 @@
 //! The statements of the setup section and those of a session.
 
-ghost use Rattle.std.specs.Prelude.{◌≡◌};
 ghost use Rattle.aq_grammar.specs.Nonterminals.{reads};
 ghost use Rattle.aq_grammar.specs.Statements.{created, supported_in_setup, setup_statement, block_statement, supported_in_session, session_statement};
 ghost use Rattle.aq_grammar.specs.Steps.{Gives};

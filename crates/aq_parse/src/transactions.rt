@@ -1,6 +1,6 @@
 //! Transaction blocks and savepoints (PostgreSQL manual, pages BEGIN, START TRANSACTION, COMMIT, ROLLBACK, SAVEPOINT, RELEASE SAVEPOINT, ROLLBACK TO SAVEPOINT).
 
-ghost use Rattle.std.specs.Prelude.{◌≡◌, codes};
+ghost use Rattle.std.specs.Prelude.{codes};
 ghost use Rattle.aq_base.specs.declared.statement.Statement.TheVariants.{Commit, Rollback};
 ghost use Rattle.aq_grammar.specs.Nonterminals.{reads};
 ghost use Rattle.aq_grammar.specs.Steps.{Gives};

@@ -1,9 +1,9 @@
 //! CREATE FUNCTION and CREATE TRIGGER (PostgreSQL manual, pages of these names).
 
-ghost use Rattle.std.specs.Prelude.{◌≡◌, [], ◌∷◌, codes, IfOk};
+ghost use Rattle.std.specs.Prelude.{◌≡◌, [], ◌∷◌, IfOk};
 ghost use Rattle.aq_grammar.specs.Reading.{read_other};
 ghost use Rattle.aq_grammar.specs.Terminals.{Keyword};
-ghost use Rattle.aq_grammar.specs.Forms.{word, ◌▸◌};
+ghost use Rattle.aq_grammar.specs.Forms.{word};
 ghost use Rattle.aq_grammar.specs.Nonterminals.{reads};
 ghost use Rattle.aq_grammar.specs.Steps.{Gives};
 ghost use Rattle.aq_grammar.specs.Triggers.{no_arguments, language, insert_event, delete_event, update_event, last_event, more_events, events, table_as, transitions_of, transition_tables, referencing, fires_for, when_part, executes, watched, fired, create_function, create_trigger, create_constraint_trigger};

@@ -1,6 +1,5 @@
 //! Words that have a meaning by themselves.
 
-ghost use Rattle.std.specs.Prelude.{◌≡◌};
 ghost use Rattle.aq_grammar.specs.Nonterminals.{reads};
 ghost use Rattle.aq_grammar.specs.Forms.{says};
 ghost use Rattle.aq_grammar.specs.Steps.{Gives};

@@ -1,11 +1,11 @@
 -- Tokens and lines that are printed one after the other.
-use Rattle.std.proofs.Common.{◌≡◌, subst, add-one, ℕ, zero, suc, ◌+◌, ◌<◌, length, take, get_or, arith, true, false, Bool, ◌||◌, ◌&&◌, not, List, [], ◌∷◌, ◌++◌, refl, sym, ap, ◌∙◌, append_assoc, map, cond}
+use Rattle.std.proofs.Common.{◌≡◌, subst, add-one, ℕ, zero, suc, ◌+◌, ◌<◌, length, take, get_or, arith, true, false, Bool, ◌||◌, ◌&&◌, not, List, [], ◌∷◌, ◌++◌, refl, sym, ap, ◌∙◌, append_assoc, map}
 use Rattle.std.specs.Prelude.{OnOk, Result, if◌then◌else◌}
 use Rattle.std.specs.List.{flat_map}
 use Rattle.std.proofs.lemmas.List.{append-nil}
 use Rattle.std.proofs.lemmas.List.Concat.{flat_map_single}
 use Rattle.aq_base.specs.Names.{Text}
-use Rattle.aq_texts.specs.Written.{Written, token_text, joins_last, joins_next, is_minus, blank_between, text_behind, written, separated}
+use Rattle.aq_texts.specs.Written.{Written, token_text, joins_last, joins_next, is_minus, text_behind, written, separated}
 use Rattle.aq_texts.specs.Canon.{line}
 use Rattle.aq_print.specs.Printing.{Printed, fresh, is_joined, put, put_all, put_line, put_lines}
 

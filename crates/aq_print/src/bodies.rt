@@ -3,7 +3,7 @@
 
 ghost use Rattle.std.specs.Prelude.{◌≡◌, ◌∷◌, ◌++◌, [], codes, OnOk};
 ghost use Rattle.std.specs.List.{flat_map};
-ghost use Rattle.aq_texts.specs.Written.{Mark, say};
+ghost use Rattle.aq_texts.specs.Written.{say};
 ghost use Rattle.aq_texts.specs.Canon.{expression, returned, body_statement, else_if, block};
 ghost use Rattle.aq_print.specs.Printing.{put, put_all};
 ghost use Rattle.aq_lex.specs.declared.token.Symbol.TheVariants.{Semicolon};

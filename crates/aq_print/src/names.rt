@@ -4,7 +4,7 @@ ghost use Rattle.std.specs.Prelude.{◌≡◌, ◌++◌, ◌∷◌, [], ◌||◌
 ghost use Rattle.std.specs.List.{list_all, list_any};
 ghost use Rattle.std.specs.Char.{to_ascii_lowercase};
 ghost use Rattle.aq_base.specs.Names.{is_reserved, same_text};
-ghost use Rattle.aq_lex.specs.Tokens.{begins_word, goes_on_in_word, is_word, quoted, doubled};
+ghost use Rattle.aq_lex.specs.Tokens.{begins_word, goes_on_in_word, is_word, quoted};
 ghost use Rattle.aq_texts.specs.Written.{is_bare, name_text};
 
 use aq_base::{NoMemory, TextVal};

@@ -1,10 +1,10 @@
 //! Scripts in their canonical form.
 #![tactic(auto, using(crate::proofs::Printing::put_all_append, crate::proofs::Printing::put_lines_append))]
 
-ghost use Rattle.std.specs.Prelude.{◌≡◌, map, IfOk, OnOk};
+ghost use Rattle.std.specs.Prelude.{◌≡◌, IfOk, OnOk};
 ghost use Rattle.std.specs.List.{flat_map};
 ghost use Rattle.aq_texts.specs.Canon.{placed_lines, setup_lines, session_lines, item, schedule_lines, script_lines, canon};
-ghost use Rattle.aq_print.specs.Printing.{put_all, put_lines};
+ghost use Rattle.aq_print.specs.Printing.{put_lines};
 
 use crate::lists::{Prints, one_by_one};
 use crate::printer::Printer;

@@ -1,7 +1,7 @@
 //! Statements, each on a line with its `;`.
 #![tactic(auto, using(crate::proofs::Printing::put_all_append))]
 
-ghost use Rattle.std.specs.Prelude.{◌≡◌, [], ◌∷◌, ◌++◌, map, codes, IfOk, OnOk};
+ghost use Rattle.std.specs.Prelude.{◌≡◌, [], ◌∷◌, ◌++◌, map, IfOk, OnOk};
 ghost use Rattle.aq_texts.specs.Written.{say, Name};
 ghost use Rattle.aq_texts.specs.Canon.{isolation, statement, statement_tokens, statement_line};
 ghost use Rattle.aq_print.specs.Printing.{put_all, put_line};

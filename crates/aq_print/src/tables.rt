@@ -1,8 +1,7 @@
 //! Tables and their constraints.
 #![tactic(auto, using(crate::proofs::Printing::put_all_append))]
 
-ghost use Rattle.std.specs.Prelude.{◌≡◌, ◌++◌, [], map, OnOk, if◌then◌else◌};
-ghost use Rattle.std.specs.List.{flat_map};
+ghost use Rattle.std.specs.Prelude.{◌≡◌, [], map, OnOk, if◌then◌else◌};
 ghost use Rattle.aq_texts.specs.Written.{say};
 ghost use Rattle.aq_texts.specs.Canon.{kind, constraint_name, matching, action_on, timing, reference, column_constraint, table_constraint, table_item, create_table, alter_table};
 ghost use Rattle.aq_print.specs.Printing.{put, put_all};

@@ -1,7 +1,7 @@
 //! Functions and triggers.
 #![tactic(auto, using(crate::proofs::Printing::put_all_append, crate::proofs::Printing::separated_cons))]
 
-ghost use Rattle.std.specs.Prelude.{◌≡◌, ◌∷◌, ◌++◌, codes, OnOk};
+ghost use Rattle.std.specs.Prelude.{◌≡◌, ◌∷◌, codes, OnOk};
 ghost use Rattle.std.specs.List.{flat_map};
 ghost use Rattle.aq_texts.specs.Written.{say, separated};
 ghost use Rattle.aq_texts.specs.Canon.{perhaps, function, create_function, trigger_event, fires_on, transition, transition_table, referencing, for_each, when_part, executes, create_trigger, create_constraint_trigger};

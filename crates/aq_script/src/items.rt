@@ -4,7 +4,7 @@ ghost use Rattle.aq_grammar.specs.Nonterminals.{reads};
 ghost use Rattle.aq_grammar.specs.Steps.{Gives};
 ghost use Rattle.aq_script.specs.Sections.{item, items, schedule};
 
-use aq_base::{Item, List, TextVal};
+use aq_base::{Item, List};
 use aq_grammar::{Read, count, heading, is_heading, is_plain_name, is_symbol, plain_name, sign};
 use aq_lex::{Directive, Lexed, Symbol};
 use std::alloc::Global;

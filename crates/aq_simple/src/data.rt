@@ -1,6 +1,5 @@
 //! INSERT and DELETE of the forms that the machine runs.
 
-ghost use Rattle.std.specs.Prelude.{◌≡◌};
 ghost use Rattle.aq_simple.specs.Forms.{simple_constant, simple_expr, simple_given, simple_row, simple_source, simple_insert, simple_delete, all_of};
 ghost use Rattle.aq_simple.specs.Steps.{Gives};
 

@@ -1,6 +1,5 @@
 //! Statements and scripts of the forms that the machine runs.
 
-ghost use Rattle.std.specs.Prelude.{◌≡◌};
 ghost use Rattle.aq_simple.specs.Forms.{simple_begin, simple_statement, simple_placed, simple_statements, simple_session, simple_script, all_of};
 ghost use Rattle.aq_simple.specs.Steps.{Gives};
 

@@ -1,5 +1,5 @@
 -- Numbers that are tried one after the other.
-use Rattle.std.proofs.Common.{◌≡◌, ℕ, zero, suc, ◌+◌, ◌-◌, ◌<◌, ◌≤◌, Bool, true, false, List, Option, Some, None, refl, sym, ap, subst, ◌∙◌, arith}
+use Rattle.std.proofs.Common.{◌≡◌, ℕ, zero, suc, ◌+◌, ◌-◌, ◌<◌, ◌≤◌, Bool, true, false, Some, None, ap, ◌∙◌, arith}
 use Rattle.std.specs.Prelude.{find, if◌then◌else◌}
 use Rattle.aq_words.specs.Commands.{numbers_from}
 

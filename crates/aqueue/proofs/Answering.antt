@@ -1,11 +1,11 @@
 -- What the kinds of answer rule out.
-use Rattle.std.proofs.Common.{◌≡◌, ℕ, ◌<◌, ◌≤◌, Bool, true, false, List, [], ◌∷◌, length, Option, Some, None, refl, sym, ap, subst, ◌∙◌, arith, Result, Ok, Err}
+use Rattle.std.proofs.Common.{◌≡◌, ℕ, ◌<◌, ◌≤◌, true, false, List, [], ◌∷◌, length, Option, Some, None, refl, sym, ap, subst, ◌∙◌, arith, Result, Ok, Err}
 use Rattle.std.specs.Prelude.{IfSome, IfOk, is_some}
 use Rattle.std.specs.Io.KnownBytes.{Appends}
 use Rattle.aq_base.specs.Names.{Text}
 use Rattle.aqueue.specs.declared.task.Task.{Task}
 use Rattle.aqueue.specs.declared.task.Task.TheVariants.{Replay, Check}
-use Rattle.aqueue.specs.Answers.{task_of, is_task, script_limit, usage_line, too_long_line, refusal_line, CanBeDone, CannotBeDone, IsDone, IsReplay, IsChecked, IsRefusal, IsAnswer, WroteDone, WroteRefusal, is_one_of}
+use Rattle.aqueue.specs.Answers.{task_of, is_task, script_limit, usage_line, too_long_line, refusal_line, CanBeDone, CannotBeDone, IsDone, IsRefusal, IsAnswer, WroteDone, WroteRefusal, is_one_of}
 use Rattle.aq_base.specs.declared.fault.SqlFault.{SqlFault}
 use Rattle.aqueue.specs.Outcomes.{OutcomeCases}
 use Rattle.aqueue.specs.declared.program.Outcome.{Outcome}

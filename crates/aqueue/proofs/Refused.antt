@@ -4,7 +4,6 @@ use Rattle.std.specs.Prelude.{IfErr, IfOk}
 use Rattle.aq_base.specs.declared.fault.SqlFault.{SqlFault}
 use Rattle.aq_base.specs.declared.script.Script.{Script}
 use Rattle.aq_base.specs.declared.simple.SimpleScript.{SimpleScript}
-use Rattle.aq_setup.specs.Catalogs.{Catalog}
 use Rattle.aq_setup.specs.Setup.{RefusedSetup, setup}
 use Rattle.aq_script.specs.Reading.{Reads, HasNoReading, IsRefusedLine, IfRefused}
 use Rattle.aq_script.specs.declared.fault.ScriptFault.{ScriptFault}
@@ -15,7 +14,7 @@ use Rattle.aq_catalog.specs.declared.building.BuildFault.TheVariants as build
 use Rattle.aq_simple.specs.Simple.{Runs, not_built_line}
 use Rattle.aqueue.specs.declared.task.Task.{Task}
 use Rattle.aqueue.specs.declared.task.Task.TheVariants.{Replay, Check}
-use Rattle.aqueue.specs.Answers.{SetsUp, IsSetUp, RunsAs, CanBeDone, CannotBeDone, IsRefusal, not_built}
+use Rattle.aqueue.specs.Answers.{IsSetUp, RunsAs, CanBeDone, CannotBeDone, IsRefusal, not_built}
 use Rattle.aqueue.specs.Answers.IsRefusal.{Not_read, Not_set_up, Not_run}
 use Rattle.aqueue.specs.Faults.{IfScript, unread, not_set_up}
 use Rattle.aqueue.specs.declared.fault.RunFault.{RunFault}

@@ -1,5 +1,5 @@
 -- A script that fits the language has a text of its run by the default schedule.
-use Rattle.std.proofs.Common.{◌≡◌, ℕ, ◌≤◌, ◌<◌, ◌^◌, ◌+◌, Bool, true, false, ◌&&◌, leb, List, [], ◌∷◌, length, map, refl, sym, ap, subst, ◌∙◌, arith}
+use Rattle.std.proofs.Common.{◌≡◌, ◌≤◌, ◌<◌, ◌^◌, ◌+◌, Bool, true, false, ◌&&◌, leb, List, [], ◌∷◌, length, map, refl, sym, ap, subst, ◌∙◌, arith}
 use Rattle.std.specs.List.{list_all}
 use Rattle.std.proofs.lemmas.Bool.Decides.{nat_tests}
 use Rattle.aq_base.specs.Names.{Text, is_name, all_differ}
@@ -9,7 +9,7 @@ use Rattle.aq_base.specs.Scripts.{fits_first_language, session_fits}
 use Rattle.aq_base.specs.declared.simple.SimpleScript.{SimpleScript}
 use Rattle.aq_base.specs.declared.simple.SimpleSession.{SimpleSession}
 use Rattle.aq_run.specs.States.{opening}
-use Rattle.aq_run.specs.Runs.{Schedule, run, GoesByDefault, IsSchedule, IsComplete}
+use Rattle.aq_run.specs.Runs.{Schedule, run, IsSchedule, IsComplete}
 use Rattle.aq_run.specs.Texts.{text}
 use Rattle.aq_run.proofs.Running.{CanRunFrom-by_default}
 use Rattle.aq_run.specs.Told.{TellsSchedule, CanBeTold}

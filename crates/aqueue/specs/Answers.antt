@@ -1,10 +1,10 @@
 -- What the program answers to its words and its input, and the line or text that it writes.
-use Rattle.std.specs.Prelude.{◌≡◌, ℕ, ◌<◌, ◌≤◌, Bool, true, false, ◌==◌, List, [], ◌∷◌, ◌++◌, length, take, Option, Some, None, is_some, IfSome, Result, Ok, Err, codes}
+use Rattle.std.specs.Prelude.{◌≡◌, ℕ, ◌<◌, ◌≤◌, Bool, true, false, ◌==◌, List, [], ◌++◌, length, take, Option, Some, None, is_some, IfSome, Ok, Err, codes}
 use Rattle.std.specs.Fmt.{decimal}
 use Rattle.std.specs.List.{list_any}
 use Rattle.std.specs.Io.KnownBytes.{Appends}
 use Rattle.aq_base.specs.Names.{Text}
-use Rattle.aq_base.specs.Setup.{Program, program_of}
+use Rattle.aq_base.specs.Setup.{program_of}
 use Rattle.aq_base.specs.declared.fault.SqlFault.{SqlFault}
 use Rattle.aq_base.specs.declared.script.Script.{Script}
 use Rattle.aq_base.specs.declared.simple.SimpleScript.{SimpleScript}
@@ -18,7 +18,7 @@ use Rattle.aqueue.specs.declared.task.Task.{Task}
 use Rattle.aqueue.specs.declared.task.Task.TheVariants.{Replay, Check}
 use Rattle.aq_script.specs.Reading.{Reads, IsRefusedLine}
 use Rattle.aq_simple.specs.Simple.{Runs, not_built_line}
-use Rattle.aq_run.specs.Runs.{Schedule, run, IsSchedule, IsComplete, IsDefaultSchedule}
+use Rattle.aq_run.specs.Runs.{Schedule, run, IsComplete, IsDefaultSchedule}
 use Rattle.aq_run.specs.Texts.{text}
 use Rattle.aq_texts.specs.Rows.{line}
 use Rattle.aq_run.specs.Told.{TellsSchedule, CanBeTold}

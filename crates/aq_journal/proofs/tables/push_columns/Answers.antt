@@ -1,4 +1,3 @@
-use Rattle.std.proofs.Common.{ℕ, List, ◌∙◌}
 use Rattle.aq_texts.specs.Written.{name_text}
 use Rattle.aq_texts.proofs.Joining.{joins}
 use Rattle.aq_journal.proofs.tables.push_columns.Goals as goal

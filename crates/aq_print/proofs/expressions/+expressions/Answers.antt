@@ -1,4 +1,4 @@
-use Rattle.std.proofs.Common.{◌≡◌, [], ◌∷◌, ◌∙◌, ap, sym, codes}
+use Rattle.std.proofs.Common.{[], ◌∷◌, ◌∙◌, ap, sym, codes}
 use Rattle.aq_texts.specs.Written.{say}
 use Rattle.aq_texts.specs.Canon.{Operand, printed, operand}
 use Rattle.aq_texts.proofs.Expressions.{null_test_is, not_null_test_is}

@@ -1,4 +1,4 @@
-use Rattle.std.proofs.Common.{◌+◌, ◌-◌, ◌≡◌, ℕ, ◌≤◌}
+use Rattle.std.proofs.Common.{◌+◌, ◌-◌, ◌≡◌, ◌≤◌}
 use Rattle.std.specs.Prelude.{find}
 use Rattle.std.specs.Fmt.{decimal}
 use Rattle.aq_base.specs.Names.{same_text}

@@ -1,4 +1,4 @@
-use Rattle.std.proofs.Common.{◌≡◌, ℕ, ◌<◌, ◌≤◌, true, List, [], ◌∷◌, length, refl, subst, ◌∙◌}
+use Rattle.std.proofs.Common.{◌≡◌, ◌<◌, ◌≤◌, true, [], ◌∷◌, length, refl, subst, ◌∙◌}
 use Rattle.aqueue.specs.Answers.{script_limit, CannotBeDone, is_one_of}
 use Rattle.aqueue.proofs.Answering.{no_answer, known_status, usage_holds, too_long_holds, done_holds, refusal_holds, long_answer, refused_answer, done_answer, all_told}
 use Rattle.std.specs.Io.KnownBytes.{Appends}

@@ -1,10 +1,8 @@
-use Rattle.std.proofs.Common.{rules, ◌≡◌, ℕ, ◌<◌, true, List, length, sym, ◌∙◌}
+use Rattle.std.proofs.Common.{rules, ◌≡◌, sym, ◌∙◌}
 use Rattle.std.specs.Prelude.{Some, None}
-use Rattle.aq_base.specs.Names.{Text}
 use Rattle.aq_causes.specs.Gathered.{ToldCases}
-use Rattle.aq_causes.specs.declared.reading.Gathered.TheVariants.{All, TooLong}
-use Rattle.aqueue.specs.Answers.{task_of, is_task, script_limit}
-use Rattle.aqueue.specs.Outcomes.{OutcomeCases}
+use Rattle.aq_causes.specs.declared.reading.Gathered.TheVariants.{All}
+use Rattle.aqueue.specs.Answers.{task_of, script_limit}
 use Rattle.aqueue.proofs.Answering.{usage_answer, too_long_answer, task_is_there, outcome_told, IfOk-follows, IfSome-follows}
 use Rattle.aqueue.proofs.program.prepared.Goals as goal
 

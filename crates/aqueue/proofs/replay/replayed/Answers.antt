@@ -1,5 +1,4 @@
 use Rattle.std.proofs.Common.{◌≡◌, [], ap, subst, ◌∙◌}
-use Rattle.std.specs.Prelude.{IfOk}
 use Rattle.aq_run.specs.Texts.{text}
 use Rattle.aq_base.specs.Setup.{program_of}
 use Rattle.aq_journal.specs.Journals.{Journal, Finishes}

@@ -1,5 +1,4 @@
 use Rattle.std.proofs.Common.{rules, ◌≡◌, [], ◌∷◌}
-use Rattle.aq_bound.specs.declared.catalog.Constraint.{Constraint}
 use Rattle.aq_catalog.proofs.MadeTriggers.{on_ok}
 use Rattle.aq_catalog.proofs.AddedReferences.{reference_as_defined}
 use Rattle.aq_catalog.proofs.catalog.Catalog.add_reference.Goals as goal
