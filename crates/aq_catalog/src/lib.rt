@@ -36,6 +36,3 @@ mod wanted;
 pub use building::{BuildFault, build};
 pub use catalog::Catalog;
 pub use fault::CatFault;
-
-#[cfg(test)]
-mod tests;

@@ -28,6 +28,3 @@ pub use terminals::{
     is_one_of, is_one_of_signs, is_plain_name, is_symbol, is_word, literal, message, name,
     name_but, name_of, number, plain_name, public_name, sign, word,
 };
-
-#[cfg(test)]
-mod tests;

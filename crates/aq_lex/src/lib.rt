@@ -16,6 +16,3 @@ pub use lexed::Lexed;
 pub use lexer::lex;
 pub use token::{Directive, Symbol, Token, TokenKind};
 pub use value::line_at;
-
-#[cfg(test)]
-mod tests;

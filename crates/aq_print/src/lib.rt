@@ -24,6 +24,3 @@ pub use schedule::{Named, Runs, print_schedule, push_schedule};
 pub use script::print_script;
 pub use statements::print_statement;
 pub use traces::print_trace;
-
-#[cfg(test)]
-mod tests;

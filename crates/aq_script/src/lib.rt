@@ -12,6 +12,3 @@ mod sessions;
 pub use fault::ScriptFault;
 pub use laws::{never_both, one_reading, one_refusal};
 pub use reading::read_script;
-
-#[cfg(test)]
-mod tests;

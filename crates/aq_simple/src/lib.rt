@@ -12,6 +12,3 @@ mod table;
 
 pub use fault::SimpleFault;
 pub use runs::{no_line_leaves, one_simple_script, simple_script};
-
-#[cfg(test)]
-mod tests;

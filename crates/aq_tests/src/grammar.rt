@@ -1,5 +1,7 @@
-use super::*;
+//! Names of tables read, and statements refused in a setup.
+
 use aq_base::TextVal;
+use aq_grammar::{ReadFault, public_name, refuse_in_setup};
 use aq_lex::{Lexed, lex};
 use std::alloc::Global;
 use std::test::*;

@@ -1,5 +1,7 @@
-use super::*;
-use crate::token::TokenKind::{Directive as Section, Integer, Symbol as Sign, Text, Word};
+//! Bytes cut into tokens, and bytes at which no token begins.
+
+use aq_lex::TokenKind::{Directive as Section, Integer, Symbol as Sign, Text, Word};
+use aq_lex::*;
 use std::alloc::Global;
 use std::test::*;
 

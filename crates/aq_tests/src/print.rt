@@ -1,5 +1,7 @@
-use super::*;
+//! Statements, rows, replies, schedules and lines of a trace printed.
+
 use aq_base::{List, NoMemory, ReplyLine, Row, Statement, TextVal, TraceEvent, TraceLine, Value};
+use aq_print::*;
 use aq_xids::SessNo;
 use std::alloc::Global;
 use std::test::Fail;

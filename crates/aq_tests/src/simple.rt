@@ -1,8 +1,10 @@
-use super::*;
+//! Scripts that the machine runs, and one that it does not.
+
 use aq_base::{
     ColumnConstraint, CreateTable, Delete, Kind, List, NoMemory, Placed, Script, SessionText,
     Statement, TableItem, TextVal,
 };
+use aq_simple::{SimpleFault, simple_script};
 use std::alloc::Global;
 use std::test::*;
 

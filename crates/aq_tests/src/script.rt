@@ -1,5 +1,7 @@
-use super::*;
+//! Scripts read, and scripts refused on the first line that is.
+
 use aq_base::Code;
+use aq_script::{ScriptFault, read_script};
 use std::alloc::Global;
 use std::test::*;
 
