@@ -10,7 +10,7 @@ functions   so many functions, and 64 triggers that name the last of them
 keys        so many unique keys of one table, each added by a statement that names it
 defaults    the same with names by default
 constraints a table with so many unique keys with names by default, all in one statement
-columns     a unique key over so many columns, none of which is there
+columns     a unique key with a name, over so many columns, none of which is there
 
 The last statement of the first two is refused, so that nothing is run.
 """
@@ -88,7 +88,7 @@ def constraints(size):
 
 
 def columns(size):
-    return "\\setup\nCREATE TABLE t0 (c0 integer, UNIQUE (" + ", ".join("d%d" % n for n in range(size)) + "));\n"
+    return "\\setup\nCREATE TABLE t0 (c0 integer, CONSTRAINT k UNIQUE (" + ", ".join("d%d" % n for n in range(size)) + "));\n"
 
 
 SHAPES = {
