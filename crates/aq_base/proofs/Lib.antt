@@ -1,5 +1,3 @@
 pub mod Lists
 pub mod Maps
 pub mod Values
-pub mod Databases
-pub mod Setup

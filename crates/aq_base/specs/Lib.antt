@@ -1,11 +1,4 @@
 pub mod formers
 pub mod Values
 pub mod Maps
-pub mod Catalogs
-pub mod Databases
-pub mod Writes
-pub mod Works
-pub mod References
 pub mod Names
-pub mod Setup
-pub mod Scripts

@@ -12,7 +12,7 @@ use crate::text::TextVal;
 use std::alloc::AllocError;
 
 /// What a body returns. The result of an AFTER trigger is ignored.
-#[derive(Clone, Copy, Debug, PartialEq, Eq)]
+#[derive(Clone, Copy, PartialEq, Eq)]
 pub enum Returned {
     Null,
     New,
@@ -21,7 +21,7 @@ pub enum Returned {
 
 /// A statement of a body.
 #[cycle(body)]
-#[derive(Debug, Drop)]
+#[derive(Drop)]
 pub enum BodyStatement {
     /// `IF condition THEN then else_ifs ELSE otherwise END IF`. An ELSE with nothing after it is there.
     If {
@@ -42,7 +42,7 @@ pub enum BodyStatement {
 
 /// `ELSIF condition THEN then`
 #[cycle(body)]
-#[derive(Debug, Drop)]
+#[derive(Drop)]
 pub struct ElseIf {
     pub condition: Expr,
     pub then: List<BodyStatement>,

@@ -1,78 +1,124 @@
+use crate::body::BodyStatement;
+use crate::bound_body::BoundBodyStatement;
+use crate::bound_expr::BoundExpr;
+use crate::constraint::Action;
 use crate::list::List;
-use crate::numbers::{ColNo, FkNo, TabNo};
+use crate::numbers::{ColNo, ConNo, FkNo, TabNo};
 use crate::same::Same;
 use crate::script::Kind;
 use crate::text::TextVal;
-
-/// A column: its name and the kind of its values.
-#[derive(Debug, Drop)]
-pub struct Column {
-    pub name: TextVal,
-    pub kind: Kind,
-}
-
-/// A table: its name, its columns in order, and those that hold no null.
-#[derive(Debug, Drop)]
-pub struct Table {
-    pub name: TextVal,
-    pub cols: List<Column>,
-    pub not_null: List<ColNo>,
-}
-
-/// A unique key: no two rows of the table agree on these columns (PostgreSQL manual, page CREATE TABLE, PRIMARY KEY).
-#[derive(Debug, Drop)]
-pub struct UniqueKey {
-    pub name: TextVal,
-    pub table: TabNo,
-    pub cols: List<ColNo>,
-}
-
-/// A foreign key: each row of the child table has a row of the parent table with the same key
-/// (PostgreSQL manual, page CREATE TABLE, REFERENCES).
-#[derive(Debug, Drop)]
-pub struct ForeignKey {
-    pub name: TextVal,
-    pub child: TabNo,
-    pub child_cols: List<ColNo>,
-    pub parent: TabNo,
-    pub parent_cols: List<ColNo>,
-}
+use crate::trigger::Each;
+use crate::value::Value;
 
 /// What changes a row.
-#[derive(Clone, Copy, Debug, PartialEq, Eq)]
+#[derive(Clone, Copy, PartialEq, Eq)]
 pub enum Op {
     Insert,
     Update,
     Delete,
 }
 
-/// What a trigger does when its event fires (PostgreSQL source, ri_triggers.c).
-#[derive(Clone, Copy, Debug, PartialEq, Eq)]
-pub enum Does {
-    /// Looks for the parent of the child row.
-    Check(FkNo),
-    /// Looks whether a child row still refers to the parent row that went.
-    Parent(FkNo),
-}
-
 /// When the events of a constraint fire (PostgreSQL manual, page CREATE TABLE, DEFERRABLE).
-#[derive(Clone, Copy, Debug, PartialEq, Eq)]
+#[derive(Clone, Copy, PartialEq, Eq)]
 pub struct Decl {
     pub deferrable: bool,
     pub deferred: bool,
-}
-
-/// A trigger: its table, the changes that queue its events, when they fire, and what an event does.
-#[derive(Debug, Drop)]
-pub struct Trigger {
-    pub table: TabNo,
-    pub ops: List<Op>,
-    pub decl: Decl,
-    pub does: Does,
 }
 
 impl Same for Decl {
     fn same(&self, other: &Self) -> bool {
         *self == *other
     }
+}
+
+/// A column: its name, the kind of its values, and the value that it gets where none is given.
+#[derive(Drop)]
+pub struct Column {
+    pub name: TextVal,
+    pub kind: Kind,
+    pub default: Value,
+}
+
+/// A table: its name, its columns in order, and the numbers of those that hold no null, in order
+/// (PostgreSQL manual, pages pg_class and pg_attribute).
+#[derive(Drop)]
+pub struct Table {
+    pub name: TextVal,
+    pub cols: List<Column>,
+    pub not_null: List<ColNo>,
+}
+
+/// A primary key or a unique key: no two rows of the table agree on these columns, unless there is a null
+/// (PostgreSQL manual, page pg_constraint).
+#[derive(Drop)]
+pub struct UniqueKey {
+    pub name: TextVal,
+    pub table: TabNo,
+    pub cols: List<ColNo>,
+}
+
+/// A foreign key (PostgreSQL manual, page pg_constraint). `full` is MATCH FULL, and `con` its number as a constraint.
+#[derive(Drop)]
+pub struct ForeignKey {
+    pub name: TextVal,
+    pub child: TabNo,
+    pub child_cols: List<ColNo>,
+    pub parent: TabNo,
+    pub parent_cols: List<ColNo>,
+    pub full: bool,
+    pub on_delete: Action,
+    pub on_update: Action,
+    pub con: ConNo,
+}
+
+/// A constraint of a table as SET CONSTRAINTS knows it: a key, a foreign key or a constraint trigger.
+#[derive(Drop)]
+pub struct Constraint {
+    pub name: TextVal,
+    pub table: TabNo,
+    pub decl: Decl,
+}
+
+/// A trigger function. Its statements are bound for each trigger that names it (PostgreSQL manual, page pg_proc).
+#[derive(Drop)]
+pub struct Function {
+    pub name: TextVal,
+    pub body: List<BodyStatement>,
+}
+
+/// What a trigger does when its event fires.
+#[derive(Drop)]
+pub enum Does {
+    /// Looks for the parent of the child row.
+    Check(FkNo),
+    /// Does what the foreign key says for the children of the parent row.
+    Parent(FkNo),
+    /// Runs the statements of its function.
+    Body(List<BoundBodyStatement>),
+    /// Tests the new row by a rule of the program.
+    Native(TextVal),
+}
+
+/// A trigger (PostgreSQL manual, page pg_trigger).
+#[derive(Drop)]
+pub struct Trigger {
+    pub name: TextVal,
+    pub table: TabNo,
+    pub ops: List<Op>,
+    /// The columns of UPDATE OF, empty where there is no list.
+    pub cols: List<ColNo>,
+    pub level: Each,
+    pub condition: Option<BoundExpr>,
+    /// The constraint whose mode its events have.
+    pub con: Option<ConNo>,
+    pub does: Does,
+    pub old_table: Option<TextVal>,
+    pub new_table: Option<TextVal>,
+}
+
+/// A rule of the program that a trigger may name, and the number of columns that it wants.
+#[derive(Drop)]
+pub struct NativeName {
+    pub name: TextVal,
+    pub arity: u16,
 }

@@ -9,7 +9,7 @@ use crate::value::Value;
 use std::alloc::AllocError;
 
 /// Which nulls a foreign key of several columns allows.
-#[derive(Clone, Copy, Debug, PartialEq, Eq)]
+#[derive(Clone, Copy, PartialEq, Eq)]
 pub enum Match {
     /// A row with any null refers to nothing.
     Simple,
@@ -18,7 +18,7 @@ pub enum Match {
 }
 
 /// What becomes of child rows when their parent row is deleted or its key changes.
-#[derive(Clone, Copy, Debug, PartialEq, Eq)]
+#[derive(Clone, Copy, PartialEq, Eq)]
 pub enum Action {
     NoAction,
     Restrict,
@@ -28,7 +28,7 @@ pub enum Action {
 }
 
 /// `table (column, column) MATCH matching ON DELETE on_delete ON UPDATE on_update timing`
-#[derive(Debug, Drop)]
+#[derive(Drop)]
 pub struct Reference {
     pub table: TextVal,
     pub columns: Option<List<TextVal>>,
@@ -39,7 +39,7 @@ pub struct Reference {
 }
 
 /// A constraint or a default that stands behind a column.
-#[derive(Debug, Drop)]
+#[derive(Drop)]
 pub enum ColumnConstraint {
     /// `NOT NULL`
     NotNull,
@@ -61,7 +61,7 @@ pub enum ColumnConstraint {
 }
 
 /// A constraint that stands by itself.
-#[derive(Debug, Drop)]
+#[derive(Drop)]
 pub enum TableConstraint {
     /// `CONSTRAINT name PRIMARY KEY (column, column)`
     PrimaryKey {

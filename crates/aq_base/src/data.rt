@@ -8,7 +8,7 @@ use crate::text::TextVal;
 use std::alloc::AllocError;
 
 /// What a column is given.
-#[derive(Debug, Drop)]
+#[derive(Drop)]
 pub enum Given {
     Value(Expr),
     /// `DEFAULT`: the column's default.
@@ -16,7 +16,7 @@ pub enum Given {
 }
 
 /// Where the rows of an INSERT come from.
-#[derive(Debug, Drop)]
+#[derive(Drop)]
 pub enum Source {
     /// `VALUES (value, value), (value, value)`
     Values(List<List<Given>>),
@@ -29,7 +29,7 @@ pub enum Source {
 }
 
 /// `INSERT INTO table (column, column) source`
-#[derive(Debug, Drop)]
+#[derive(Drop)]
 pub struct Insert {
     pub table: TextVal,
     pub columns: Option<List<TextVal>>,
@@ -37,14 +37,14 @@ pub struct Insert {
 }
 
 /// `column = value` of an UPDATE.
-#[derive(Debug, Drop)]
+#[derive(Drop)]
 pub struct Assignment {
     pub column: TextVal,
     pub value: Given,
 }
 
 /// `UPDATE table SET assignment, assignment WHERE condition`
-#[derive(Debug, Drop)]
+#[derive(Drop)]
 pub struct Update {
     pub table: TextVal,
     pub assignments: List<Assignment>,
@@ -52,14 +52,14 @@ pub struct Update {
 }
 
 /// `DELETE FROM table WHERE condition`
-#[derive(Debug, Drop)]
+#[derive(Drop)]
 pub struct Delete {
     pub table: TextVal,
     pub condition: Option<Expr>,
 }
 
 /// The columns that a SELECT shows.
-#[derive(Debug, Drop)]
+#[derive(Drop)]
 pub enum Columns {
     /// `*`
     All,
@@ -67,7 +67,7 @@ pub enum Columns {
 }
 
 /// How a SELECT locks its rows (PostgreSQL manual, section "Row-Level Locks").
-#[derive(Clone, Copy, Debug, PartialEq, Eq)]
+#[derive(Clone, Copy, PartialEq, Eq)]
 pub enum LockMode {
     Update,
     NoKeyUpdate,
@@ -76,7 +76,7 @@ pub enum LockMode {
 }
 
 /// `SELECT columns FROM table WHERE condition FOR lock`
-#[derive(Debug, Drop)]
+#[derive(Drop)]
 pub struct Select {
     pub columns: Columns,
     pub table: TextVal,

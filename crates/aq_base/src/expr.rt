@@ -10,7 +10,7 @@ use crate::value::Value;
 use std::alloc::AllocError;
 
 /// How two values are compared. `<>` and `!=` are one comparison.
-#[derive(Clone, Copy, Debug, PartialEq, Eq)]
+#[derive(Clone, Copy, PartialEq, Eq)]
 pub enum Comparison {
     Equal,
     Unequal,
@@ -21,7 +21,7 @@ pub enum Comparison {
 }
 
 /// An expression as it was read. Parentheses are gone: the tree says what belongs to what.
-#[derive(Debug, Drop)]
+#[derive(Drop)]
 pub enum Expr {
     /// `NULL`, `TRUE`, `FALSE`, a text or an integer without a sign.
     Constant(Value),

@@ -2,6 +2,10 @@
 #![tactic(auto)]
 
 mod body;
+mod bound_body;
+mod bound_data;
+mod bound_expr;
+mod bound_statement;
 mod boxed;
 mod catalog;
 mod constraint;
@@ -15,7 +19,6 @@ mod numbers;
 mod reply;
 mod same;
 mod script;
-mod simple;
 mod statement;
 mod table;
 mod text;
@@ -24,8 +27,17 @@ mod trigger;
 mod value;
 
 pub use body::{BodyStatement, ElseIf, Returned};
+pub use bound_body::{BoundBodyStatement, BoundElseIf};
+pub use bound_data::{
+    BoundAssignment, BoundColumns, BoundDelete, BoundFrom, BoundGiven, BoundInsert, BoundSelect,
+    BoundSource, BoundUpdate,
+};
+pub use bound_expr::{BoundExpr, copy_bound};
+pub use bound_statement::{Bound, BoundConstraints, BoundSet};
 pub use boxed::Boxed;
-pub use catalog::{Column, Decl, Does, ForeignKey, Op, Table, Trigger, UniqueKey};
+pub use catalog::{
+    Column, Constraint, Decl, Does, ForeignKey, Function, NativeName, Op, Table, Trigger, UniqueKey,
+};
 pub use constraint::{Action, ColumnConstraint, Match, Reference, TableConstraint};
 pub use copies::Copies;
 pub use data::{Assignment, Columns, Delete, Given, Insert, LockMode, Select, Source, Update};
@@ -36,10 +48,7 @@ pub use modes::{ConstraintMode, Constraints, SetConstraints};
 pub use numbers::{ColNo, ConNo, FkNo, KeyNo, RowNo, TabNo, TrigNo};
 pub use reply::ReplyLine;
 pub use same::Same;
-pub use script::{Bound, Item, Kind, Placed, Script, SessionText};
-pub use simple::{
-    SimpleColumn, SimpleConstraint, SimplePlaced, SimpleScript, SimpleSession, SimpleStatement,
-};
+pub use script::{Item, Kind, Placed, Script, SessionText};
 pub use statement::{Isolation, Statement};
 pub use std::alloc::AllocError as NoMemory;
 pub use table::{AlterTable, CreateTable, TableItem};

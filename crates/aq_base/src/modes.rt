@@ -7,14 +7,14 @@ use crate::text::TextVal;
 use std::alloc::AllocError;
 
 /// Whether the events of a constraint wait for the commit.
-#[derive(Clone, Copy, Debug, PartialEq, Eq)]
+#[derive(Clone, Copy, PartialEq, Eq)]
 pub enum ConstraintMode {
     Deferred,
     Immediate,
 }
 
 /// The constraints that a SET CONSTRAINTS speaks of.
-#[derive(Debug, Drop)]
+#[derive(Drop)]
 pub enum Constraints {
     /// `ALL`
     All,
@@ -22,7 +22,7 @@ pub enum Constraints {
 }
 
 /// `SET CONSTRAINTS constraints mode`
-#[derive(Debug, Drop)]
+#[derive(Drop)]
 pub struct SetConstraints {
     pub constraints: Constraints,
     pub mode: ConstraintMode,

@@ -3,7 +3,7 @@ ghost use Rattle.std.specs.Prelude.{◌≡◌};
 use std::marker::Model;
 
 /// A table's number in creation order, from 0.
-#[derive(Clone, Copy, Debug, PartialEq, Eq, PartialOrd, Ord, Hash)]
+#[derive(Clone, Copy, PartialEq, Eq, PartialOrd, Ord, Hash)]
 pub struct TabNo {
     number: u16,
 }
@@ -35,7 +35,7 @@ impl TabNo {
 }
 
 /// A column's number in its table, from 0.
-#[derive(Clone, Copy, Debug, PartialEq, Eq, PartialOrd, Ord, Hash)]
+#[derive(Clone, Copy, PartialEq, Eq, PartialOrd, Ord, Hash)]
 pub struct ColNo {
     number: u16,
 }
@@ -67,7 +67,7 @@ impl ColNo {
 }
 
 /// A foreign key's number in creation order, from 0.
-#[derive(Clone, Copy, Debug, PartialEq, Eq, PartialOrd, Ord, Hash)]
+#[derive(Clone, Copy, PartialEq, Eq, PartialOrd, Ord, Hash)]
 pub struct FkNo {
     number: u16,
 }
@@ -99,7 +99,7 @@ impl FkNo {
 }
 
 /// A unique key's number in creation order, from 0.
-#[derive(Clone, Copy, Debug, PartialEq, Eq, PartialOrd, Ord, Hash)]
+#[derive(Clone, Copy, PartialEq, Eq, PartialOrd, Ord, Hash)]
 pub struct KeyNo {
     number: u16,
 }
@@ -131,7 +131,7 @@ impl KeyNo {
 }
 
 /// A constraint's number in creation order, from 0.
-#[derive(Clone, Copy, Debug, PartialEq, Eq, PartialOrd, Ord, Hash)]
+#[derive(Clone, Copy, PartialEq, Eq, PartialOrd, Ord, Hash)]
 pub struct ConNo {
     number: u16,
 }
@@ -163,7 +163,7 @@ impl ConNo {
 }
 
 /// A trigger's number in creation order, from 0.
-#[derive(Clone, Copy, Debug, PartialEq, Eq, PartialOrd, Ord, Hash)]
+#[derive(Clone, Copy, PartialEq, Eq, PartialOrd, Ord, Hash)]
 pub struct TrigNo {
     number: u16,
 }
@@ -195,7 +195,7 @@ impl TrigNo {
 }
 
 /// A row's number: drawn from one counter at each inserted row, from 1, and never used again.
-#[derive(Clone, Copy, Debug, PartialEq, Eq, PartialOrd, Ord, Hash)]
+#[derive(Clone, Copy, PartialEq, Eq, PartialOrd, Ord, Hash)]
 pub struct RowNo {
     number: u64,
 }

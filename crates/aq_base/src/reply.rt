@@ -3,7 +3,7 @@ use crate::text::TextVal;
 use crate::value::Row;
 
 /// One line of a statement's reply, as data.
-#[derive(Debug, Drop)]
+#[derive(Drop)]
 pub enum ReplyLine {
     /// A row that a SELECT returned.
     Row(Row),

@@ -1,14 +1,12 @@
 use crate::copies::Copies;
 use crate::list::List;
-use crate::numbers::TabNo;
 use crate::same::Same;
 use crate::statement::Statement;
 use crate::text::TextVal;
-use crate::value::Row;
 use std::alloc::AllocError;
 
 /// What kind of value a column keeps (PostgreSQL manual, chapter "Data Types").
-#[derive(Clone, Copy, Debug, PartialEq, Eq)]
+#[derive(Clone, Copy, PartialEq, Eq)]
 pub enum Kind {
     /// A whole number of 32 bits.
     Integer,
@@ -18,41 +16,29 @@ pub enum Kind {
     Text,
 }
 
-/// A session's statement with numbers in place of names.
-#[derive(Debug, Drop)]
-pub enum Bound {
-    /// INSERT with the rows of its VALUES.
-    InsertRows { table: TabNo, rows: List<Row> },
-    /// DELETE of all rows.
-    DeleteRows { table: TabNo },
-    BeginBlock,
-    CommitBlock,
-    RollbackBlock,
-}
-
 /// One item of a schedule: that many steps of the session.
-#[derive(Debug, Drop)]
+#[derive(Drop)]
 pub struct Item {
     pub name: TextVal,
     pub count: u64,
 }
 
 /// A statement with the line on which it begins, counted from 1.
-#[derive(Debug, Drop)]
+#[derive(Drop)]
 pub struct Placed {
     pub line: u64,
     pub statement: Statement,
 }
 
 /// A session: its name and its statements in order.
-#[derive(Debug, Drop)]
+#[derive(Drop)]
 pub struct SessionText {
     pub name: TextVal,
     pub statements: List<Placed>,
 }
 
 /// A whole script of the whole grammar. The schedule is `None` where the script has no schedule section.
-#[derive(Debug, Drop)]
+#[derive(Drop)]
 pub struct Script {
     pub setup: List<Placed>,
     pub sessions: List<SessionText>,

@@ -10,7 +10,7 @@ use crate::trigger::{CreateConstraintTrigger, CreateFunction, CreateTrigger};
 use std::alloc::AllocError;
 
 /// What a transaction sees (PostgreSQL manual, section "Transaction Isolation").
-#[derive(Clone, Copy, Debug, PartialEq, Eq)]
+#[derive(Clone, Copy, PartialEq, Eq)]
 pub enum Isolation {
     /// Each statement sees what was committed before it. READ UNCOMMITTED is the same.
     ReadCommitted,
@@ -20,7 +20,7 @@ pub enum Isolation {
 
 /// A statement as it was read. Names that were not quoted are folded to lower case. Two spellings
 /// of one meaning, as END for COMMIT, are one tree.
-#[derive(Debug, Drop)]
+#[derive(Drop)]
 pub enum Statement {
     CreateTable(CreateTable),
     AlterTable(AlterTable),

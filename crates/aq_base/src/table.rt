@@ -9,7 +9,7 @@ use crate::text::TextVal;
 use std::alloc::AllocError;
 
 /// One item of a CREATE TABLE.
-#[derive(Debug, Drop)]
+#[derive(Drop)]
 pub enum TableItem {
     /// `name kind constraint constraint`
     Column {
@@ -21,14 +21,14 @@ pub enum TableItem {
 }
 
 /// `CREATE TABLE table (item, item)`
-#[derive(Debug, Drop)]
+#[derive(Drop)]
 pub struct CreateTable {
     pub table: TextVal,
     pub items: List<TableItem>,
 }
 
 /// `ALTER TABLE table ADD constraint`
-#[derive(Debug, Drop)]
+#[derive(Drop)]
 pub struct AlterTable {
     pub table: TextVal,
     pub constraint: TableConstraint,

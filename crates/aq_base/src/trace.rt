@@ -8,14 +8,14 @@ use crate::text::TextVal;
 use crate::value::Row;
 
 /// An event that a row change queued: its number within its transaction, counted from 1, and its trigger.
-#[derive(Debug, Drop)]
+#[derive(Drop)]
 pub struct TraceEvent {
     pub no: u64,
     pub trigger: TextVal,
 }
 
 /// How an event ended.
-#[derive(Clone, Copy, Debug, PartialEq, Eq)]
+#[derive(Clone, Copy, PartialEq, Eq)]
 pub enum Ending {
     /// A check found nothing wrong.
     Passed,
@@ -28,14 +28,14 @@ pub enum Ending {
 }
 
 /// The constraints whose mode a SET CONSTRAINTS set.
-#[derive(Debug, Drop)]
+#[derive(Drop)]
 pub enum ModeOf {
     All,
     Named(TextVal),
 }
 
 /// One line of a trace. Each names the session that took the step; levels and statements are counted from 1.
-#[derive(Debug, Drop)]
+#[derive(Drop)]
 pub enum TraceLine {
     /// A transaction began.
     Begin {

@@ -10,7 +10,7 @@ use crate::text::TextVal;
 use std::alloc::AllocError;
 
 /// A change that fires a trigger.
-#[derive(Debug, Drop)]
+#[derive(Drop)]
 pub enum TriggerEvent {
     Insert,
     Delete,
@@ -19,28 +19,28 @@ pub enum TriggerEvent {
 }
 
 /// Which rows a transition table holds.
-#[derive(Clone, Copy, Debug, PartialEq, Eq)]
+#[derive(Clone, Copy, PartialEq, Eq)]
 pub enum Transition {
     Old,
     New,
 }
 
 /// `OLD TABLE AS name` or `NEW TABLE AS name`
-#[derive(Debug, Drop)]
+#[derive(Drop)]
 pub struct TransitionTable {
     pub transition: Transition,
     pub name: TextVal,
 }
 
 /// Whether a trigger fires once for each row or once for a statement.
-#[derive(Clone, Copy, Debug, PartialEq, Eq)]
+#[derive(Clone, Copy, PartialEq, Eq)]
 pub enum Each {
     Row,
     Statement,
 }
 
 /// `CREATE FUNCTION name() RETURNS trigger LANGUAGE plpgsql AS $$ BEGIN body END $$`
-#[derive(Debug, Drop)]
+#[derive(Drop)]
 pub struct CreateFunction {
     pub name: TextVal,
     pub body: List<BodyStatement>,
@@ -48,7 +48,7 @@ pub struct CreateFunction {
 
 /// `CREATE TRIGGER name AFTER event OR event ON table REFERENCING transitions FOR EACH each
 /// WHEN (condition) EXECUTE FUNCTION function()`. A REFERENCING with nothing after it is there.
-#[derive(Debug, Drop)]
+#[derive(Drop)]
 pub struct CreateTrigger {
     pub name: TextVal,
     pub events: List<TriggerEvent>,
@@ -61,7 +61,7 @@ pub struct CreateTrigger {
 
 /// `CREATE CONSTRAINT TRIGGER name AFTER event OR event ON table timing FOR EACH ROW
 /// WHEN (condition) EXECUTE FUNCTION function()`
-#[derive(Debug, Drop)]
+#[derive(Drop)]
 pub struct CreateConstraintTrigger {
     pub name: TextVal,
     pub events: List<TriggerEvent>,

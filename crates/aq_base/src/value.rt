@@ -12,7 +12,7 @@ use std::alloc::{AllocError, Global};
 use std::marker::Model;
 
 /// A value of a column.
-#[derive(Debug, Drop)]
+#[derive(Drop)]
 pub enum Value {
     /// The null value.
     Null,
@@ -26,7 +26,7 @@ pub enum Value {
 pub type Row = List<Value>;
 
 /// The values of a key's columns. Most keys are short, and stay in the value.
-#[derive(Debug, Drop)]
+#[derive(Drop)]
 pub struct Key {
     values: SmallVec<Value, 2>,
 }

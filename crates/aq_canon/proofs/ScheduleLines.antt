@@ -33,7 +33,7 @@ use Rattle.aq_script.proofs.Scripts.{schedule_has, schedule_plain}
 use Rattle.aq_texts.specs.Written.{Written, Name, Number, Repeat, Heading as Heading_token, is_bare, name_text, blank_between, text_behind}
 use Rattle.aq_texts.specs.Canon.{item as item_tokens, line}
 use Rattle.aq_texts.specs.Schedules.{name_at, with_step, runs_of, run_item, schedule_line}
-use Rattle.aq_run.proofs.Told_runs.{steps_of-runs_of, RunsFit, RunsFit-runs_of, not_there}
+use Rattle.aq_first_run.proofs.Told_runs.{steps_of-runs_of, RunsFit, RunsFit-runs_of, not_there}
 use Rattle.aq_forms.proofs.Sound.{IsSound}
 use Rattle.aq_forms.proofs.Laid.{lexeme_of, laid}
 use Rattle.aq_forms.proofs.Free.{Free}

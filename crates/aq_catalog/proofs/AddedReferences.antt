@@ -1,8 +1,8 @@
 -- A foreign key is added as the definition adds it.
 use Rattle.std.proofs.Common.{◌≡◌, ℕ, List, [], ◌∷◌, ◌++◌, ◌∙◌}
-use Rattle.aq_bound.specs.declared.catalog.ForeignKey.{ForeignKey}
-use Rattle.aq_bound.specs.declared.catalog.Constraint.{Constraint}
-use Rattle.aq_bound.specs.declared.catalog.Trigger.{Trigger}
+use Rattle.aq_base.specs.declared.catalog.ForeignKey.{ForeignKey}
+use Rattle.aq_base.specs.declared.catalog.Constraint.{Constraint}
+use Rattle.aq_base.specs.declared.catalog.Trigger.{Trigger}
 use Rattle.aq_setup.specs.Catalogs.{Catalog}
 use Rattle.aq_setup.specs.Tables.{Referring, with_reference}
 use Rattle.aq_catalog.specs.Steps.{made_fk, made_triggers}

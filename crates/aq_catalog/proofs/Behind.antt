@@ -2,7 +2,7 @@
 use Rattle.std.proofs.Common.{◌≡◌, ℕ, List, [], ◌∷◌, ◌++◌, length, ap, subst, ◌∙◌, Result, Ok, Err}
 use Rattle.std.specs.Prelude.{OnErr}
 use Rattle.std.proofs.Math.Seq.{take-length, take-append_seam}
-use Rattle.aq_bound.specs.declared.catalog.Table.{Table}
+use Rattle.aq_base.specs.declared.catalog.Table.{Table}
 use Rattle.aq_setup.specs.Catalogs.{Catalog}
 use Rattle.aq_catalog.specs.Steps.{Follows, Extends}
 use Rattle.aq_base.specs.declared.fault.SqlFault.{SqlFault}

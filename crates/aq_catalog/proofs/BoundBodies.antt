@@ -4,12 +4,12 @@ use Rattle.aq_base.specs.declared.expr.Expr.{Expr}
 use Rattle.aq_base.specs.declared.body.BodyStatement.{BodyStatement, fold-roll-BodyStatement}
 use Rattle.aq_base.specs.declared.body.BodyStatement.TheVariants as bodies
 use Rattle.aq_base.specs.declared.body.ElseIf.{ElseIf}
-use Rattle.aq_bound.specs.declared.expr.BoundExpr.{BoundExpr}
-use Rattle.aq_bound.specs.declared.data.BoundSource.{BoundSource}
-use Rattle.aq_bound.specs.declared.data.BoundInsert.{BoundInsert}
-use Rattle.aq_bound.specs.declared.body.BoundBodyStatement.{BoundBodyStatement}
-use Rattle.aq_bound.specs.declared.body.BoundBodyStatement.TheVariants as bound_bodies
-use Rattle.aq_bound.specs.declared.body.BoundElseIf.{BoundElseIf}
+use Rattle.aq_base.specs.declared.bound_expr.BoundExpr.{BoundExpr}
+use Rattle.aq_base.specs.declared.bound_data.BoundSource.{BoundSource}
+use Rattle.aq_base.specs.declared.bound_data.BoundInsert.{BoundInsert}
+use Rattle.aq_base.specs.declared.bound_body.BoundBodyStatement.{BoundBodyStatement}
+use Rattle.aq_base.specs.declared.bound_body.BoundBodyStatement.TheVariants as bound_bodies
+use Rattle.aq_base.specs.declared.bound_body.BoundElseIf.{BoundElseIf}
 use Rattle.aq_setup.specs.Scopes.{Setting, no_row}
 use Rattle.aq_setup.specs.Binding.{bound_expression, body_bound_step, else_if_bound_step, bound_body_statement, bound_body}
 use Rattle.aq_catalog.specs.Bodies.{bound_else_if}

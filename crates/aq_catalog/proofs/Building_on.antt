@@ -2,7 +2,7 @@
 use Rattle.std.proofs.Common.{◌≡◌, ℕ, ◌+◌, ◌<◌, List, ◌∷◌, Result, Ok, Err, length, drop, get_or, refl, ap, sym, ◌∙◌, subst}
 use Rattle.aq_base.specs.declared.fault.SqlFault.{SqlFault}
 use Rattle.aq_base.specs.declared.script.Placed.{Placed}
-use Rattle.aq_bound.specs.declared.catalog.NativeName.{NativeName}
+use Rattle.aq_base.specs.declared.catalog.NativeName.{NativeName}
 use Rattle.aq_setup.specs.Catalogs.{Catalog, no_tables}
 use Rattle.aq_setup.specs.Setup.{RefusedSetup, define, setup_from}
 use Rattle.aq_catalog.specs.declared.fault.CatFault.{CatFault}

@@ -3,11 +3,11 @@ use Rattle.std.proofs.Common.{◌≡◌, ℕ, List, [], ◌∷◌, ◌++◌, Opt
 use Rattle.std.proofs.lemmas.List.{take-append-drop, take-set}
 use Rattle.std.proofs.Math.Seq.{take-length, take-append_seam}
 use Rattle.aq_base.specs.Names.{Text}
-use Rattle.aq_bound.specs.declared.catalog.Table.{Table}
-use Rattle.aq_bound.specs.declared.catalog.UniqueKey.{UniqueKey}
-use Rattle.aq_bound.specs.declared.catalog.ForeignKey.{ForeignKey}
-use Rattle.aq_bound.specs.declared.catalog.Constraint.{Constraint}
-use Rattle.aq_bound.specs.declared.catalog.Trigger.{Trigger}
+use Rattle.aq_base.specs.declared.catalog.Table.{Table}
+use Rattle.aq_base.specs.declared.catalog.UniqueKey.{UniqueKey}
+use Rattle.aq_base.specs.declared.catalog.ForeignKey.{ForeignKey}
+use Rattle.aq_base.specs.declared.catalog.Constraint.{Constraint}
+use Rattle.aq_base.specs.declared.catalog.Trigger.{Trigger}
 use Rattle.aq_setup.specs.Catalogs.{Catalog}
 use Rattle.aq_setup.specs.Scopes.{number_of_column}
 use Rattle.aq_setup.specs.Tables.{with_not_null, without_nulls}

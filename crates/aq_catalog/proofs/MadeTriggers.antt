@@ -4,10 +4,10 @@ use Rattle.aq_base.specs.Names.{Text}
 use Rattle.aq_base.specs.declared.catalog.Decl.{Decl}
 use Rattle.aq_base.specs.declared.catalog.Op.{Op}
 use Rattle.aq_base.specs.declared.trigger.Each.{Each}
-use Rattle.aq_bound.specs.declared.expr.BoundExpr.{BoundExpr}
-use Rattle.aq_bound.specs.declared.catalog.Constraint.{Constraint}
-use Rattle.aq_bound.specs.declared.catalog.Does.{Does}
-use Rattle.aq_bound.specs.declared.catalog.Trigger.{Trigger}
+use Rattle.aq_base.specs.declared.bound_expr.BoundExpr.{BoundExpr}
+use Rattle.aq_base.specs.declared.catalog.Constraint.{Constraint}
+use Rattle.aq_base.specs.declared.catalog.Does.{Does}
+use Rattle.aq_base.specs.declared.catalog.Trigger.{Trigger}
 use Rattle.aq_setup.specs.Catalogs.{Catalog}
 use Rattle.aq_setup.specs.Triggers.{Wanted, made_trigger, with_trigger}
 use Rattle.aq_catalog.specs.TriggerLines.{constraint_of}

@@ -1,7 +1,7 @@
 -- The columns that hold no null.
 use Rattle.std.proofs.Common.{◌≡◌, ℕ, ◌+◌, Bool, true, ◌||◌, List, [], ◌∷◌, ◌++◌, map, refl, ap, sym, if◌then◌else◌}
 use Rattle.std.specs.List.{flat_map, enumerate_from}
-use Rattle.aq_bound.specs.declared.catalog.Table.{Table}
+use Rattle.aq_base.specs.declared.catalog.Table.{Table}
 use Rattle.aq_setup.specs.Catalogs.{is_number_in}
 use Rattle.aq_setup.specs.Tables.{without_nulls}
 use Rattle.aq_catalog.specs.Steps.{among_places}

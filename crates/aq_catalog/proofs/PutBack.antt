@@ -1,6 +1,6 @@
 -- A trigger that was added is taken away again.
 use Rattle.std.proofs.Common.{◌≡◌, [], ◌∷◌, ◌++◌, ap, ◌∙◌, arith}
-use Rattle.aq_bound.specs.declared.catalog.Trigger.{Trigger}
+use Rattle.aq_base.specs.declared.catalog.Trigger.{Trigger}
 use Rattle.aq_setup.specs.Catalogs.{Catalog}
 use Rattle.aq_catalog.specs.declared.mark.Mark.{Mark}
 use Rattle.aq_catalog.specs.Marks.{mark_of, shortened}

@@ -2,12 +2,12 @@
 use Rattle.std.proofs.Common.{◌≡◌, ℕ, ◌≤◌, [], ◌∷◌, ◌++◌, length, ap, sym, ◌∙◌, refl, take, slice_get, slice_set, map, List, Option, Some, None}
 use Rattle.std.proofs.lemmas.List.{take-append-le, take-set-le}
 use Rattle.std.proofs.Math.Seq.{take-length}
-use Rattle.aq_bound.specs.declared.catalog.Table.{Table}
-use Rattle.aq_bound.specs.declared.catalog.UniqueKey.{UniqueKey}
-use Rattle.aq_bound.specs.declared.catalog.ForeignKey.{ForeignKey}
-use Rattle.aq_bound.specs.declared.catalog.Constraint.{Constraint}
-use Rattle.aq_bound.specs.declared.catalog.Function.{Function}
-use Rattle.aq_bound.specs.declared.catalog.Trigger.{Trigger}
+use Rattle.aq_base.specs.declared.catalog.Table.{Table}
+use Rattle.aq_base.specs.declared.catalog.UniqueKey.{UniqueKey}
+use Rattle.aq_base.specs.declared.catalog.ForeignKey.{ForeignKey}
+use Rattle.aq_base.specs.declared.catalog.Constraint.{Constraint}
+use Rattle.aq_base.specs.declared.catalog.Function.{Function}
+use Rattle.aq_base.specs.declared.catalog.Trigger.{Trigger}
 use Rattle.aq_base.specs.Names.{Text}
 use Rattle.aq_setup.specs.Catalogs.{Catalog}
 use Rattle.aq_setup.specs.Scopes.{number_of_column}

@@ -1,7 +1,7 @@
 -- An ELSIF whose names are numbers.
 use Rattle.aq_base.specs.declared.body.ElseIf.{ElseIf, fold-ElseIf}
-use Rattle.aq_bound.specs.declared.body.BoundBodyStatement.{BoundBodyStatement}
-use Rattle.aq_bound.specs.declared.body.BoundElseIf.{BoundElseIf}
+use Rattle.aq_base.specs.declared.bound_body.BoundBodyStatement.{BoundBodyStatement}
+use Rattle.aq_base.specs.declared.bound_body.BoundElseIf.{BoundElseIf}
 use Rattle.aq_setup.specs.Scopes.{Setting}
 use Rattle.aq_setup.specs.Binding.{body_bound_step, else_if_bound_step}
 

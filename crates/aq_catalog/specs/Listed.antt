@@ -4,10 +4,10 @@ use Rattle.std.specs.List.{list_any, enumerate_from, insert, position_or_len}
 use Rattle.aq_base.specs.Names.{Text}
 use Rattle.aq_base.specs.declared.catalog.Op.{Op}
 use Rattle.aq_base.specs.declared.catalog.Op.TheVariants as ops
-use Rattle.aq_bound.specs.declared.catalog.Table.{Table}
-use Rattle.aq_bound.specs.declared.catalog.UniqueKey.{UniqueKey}
-use Rattle.aq_bound.specs.declared.catalog.ForeignKey.{ForeignKey}
-use Rattle.aq_bound.specs.declared.catalog.Trigger.{Trigger}
+use Rattle.aq_base.specs.declared.catalog.Table.{Table}
+use Rattle.aq_base.specs.declared.catalog.UniqueKey.{UniqueKey}
+use Rattle.aq_base.specs.declared.catalog.ForeignKey.{ForeignKey}
+use Rattle.aq_base.specs.declared.catalog.Trigger.{Trigger}
 use Rattle.aq_setup.specs.Catalogs.{places, same_op, fires_on, stands_before, in_name_order}
 
 pub record Listed : Type 0 where

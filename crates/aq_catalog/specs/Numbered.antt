@@ -3,7 +3,7 @@ use Rattle.std.specs.Prelude.{ℕ, Bool, true, ◌≡◌, ◌<◌, ◌≤◌, �
 use Rattle.std.specs.List.{list_any}
 use Rattle.std.specs.Fmt.{decimal}
 use Rattle.aq_base.specs.Names.{Text, same_text}
-use Rattle.aq_bound.specs.declared.catalog.Constraint.{Constraint}
+use Rattle.aq_base.specs.declared.catalog.Constraint.{Constraint}
 use Rattle.aq_catalog.specs.Indexed.{passes}
 
 -- the names of a table's constraints

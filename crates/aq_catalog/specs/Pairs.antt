@@ -1,7 +1,7 @@
 -- The columns of a foreign key, each with the one that it refers to.
 use Rattle.std.specs.Prelude.{ℕ, Bool, List, option_map, slice_get}
 use Rattle.aq_base.specs.Names.{Text}
-use Rattle.aq_bound.specs.declared.catalog.Column.{Column}
+use Rattle.aq_base.specs.declared.catalog.Column.{Column}
 use Rattle.aq_setup.specs.Scopes.{number_of_column}
 use Rattle.aq_setup.specs.References.{kinds_fit}
 

@@ -3,10 +3,10 @@ use Rattle.std.specs.Prelude.{ℕ, ◌≡◌, Bool, if◌then◌else◌, List, [
 use Rattle.std.specs.List.{flat_map}
 use Rattle.aq_base.specs.Names.{Text}
 use Rattle.aq_base.specs.declared.catalog.Op.TheVariants as ops
-use Rattle.aq_bound.specs.declared.catalog.Table.{Table}
-use Rattle.aq_bound.specs.declared.catalog.ForeignKey.{ForeignKey}
-use Rattle.aq_bound.specs.declared.catalog.Trigger.{Trigger}
-use Rattle.aq_bound.specs.declared.catalog.Does.TheVariants.{Check, Parent}
+use Rattle.aq_base.specs.declared.catalog.Table.{Table}
+use Rattle.aq_base.specs.declared.catalog.ForeignKey.{ForeignKey}
+use Rattle.aq_base.specs.declared.catalog.Trigger.{Trigger}
+use Rattle.aq_base.specs.declared.catalog.Does.TheVariants.{Check, Parent}
 use Rattle.aq_setup.specs.Catalogs.{Catalog, columns_at}
 use Rattle.aq_setup.specs.Scopes.{number_of_table, number_of_column}
 use Rattle.aq_setup.specs.References.{parent_cols}

@@ -4,13 +4,13 @@ use Rattle.std.specs.List.{flat_map, list_any}
 use Rattle.aq_base.specs.Names.{same_text}
 use Rattle.aq_base.specs.declared.fault.SqlFault.{SqlFault}
 use Rattle.aq_base.specs.declared.catalog.Decl.{Decl}
-use Rattle.aq_bound.specs.declared.catalog.NativeName.{NativeName}
-use Rattle.aq_bound.specs.declared.catalog.Constraint.{Constraint}
+use Rattle.aq_base.specs.declared.catalog.NativeName.{NativeName}
+use Rattle.aq_base.specs.declared.catalog.Constraint.{Constraint}
 use Rattle.aq_setup.specs.Catalogs.{Catalog, table_columns, table_number}
 use Rattle.aq_setup.specs.Scopes.{number_of_table, no_row}
 use Rattle.aq_setup.specs.Binding.{condition_faults}
 use Rattle.aq_base.specs.declared.expr.Expr.{Expr}
-use Rattle.aq_bound.specs.declared.catalog.Column.{Column}
+use Rattle.aq_base.specs.declared.catalog.Column.{Column}
 use Rattle.aq_setup.specs.Names.{unknown, table_faults}
 use Rattle.aq_setup.specs.Faults.{no_column, trigger_exists, constraint_exists}
 use Rattle.aq_setup.specs.Tables.{names_taken}

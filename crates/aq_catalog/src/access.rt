@@ -5,8 +5,9 @@ ghost use Rattle.aq_setup.specs.Catalogs as catalogs;
 
 use crate::catalog::Catalog;
 use crate::of_tables;
-use aq_base::{ConNo, Decl, FkNo, KeyNo, Op, TabNo, TextVal, TrigNo};
-use aq_bound::{ForeignKey, Table, Trigger, UniqueKey};
+use aq_base::{
+    ConNo, Decl, FkNo, ForeignKey, KeyNo, Op, TabNo, Table, TextVal, TrigNo, Trigger, UniqueKey,
+};
 
 impl Catalog {
     /// The table of a name.

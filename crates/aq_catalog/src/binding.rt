@@ -3,19 +3,17 @@
 ghost use Rattle.std.specs.Prelude.{◌≡◌, IfOk, map, option_map};
 ghost use Rattle.aq_setup.specs.Scopes as scopes;
 ghost use Rattle.aq_setup.specs.Binding as binding;
-ghost use Rattle.aq_bound.specs.declared.data.BoundSource.TheVariants.{Query};
+ghost use Rattle.aq_base.specs.declared.bound_data.BoundSource.TheVariants.{Query};
 ghost use Rattle.aq_catalog.specs.Bodies.{bound_else_if as else_if_is};
 
 use crate::catalog::Catalog;
 use crate::lookups::{in_16_bits, number_of_column, number_of_table, numbers_of_columns};
 use crate::scopes::{Scope, Setting, is_text, no_row, query_scope, table_scope};
 use aq_base::{
-    Assignment, BodyStatement, Boxed, ColNo, Columns, Copies, Delete, ElseIf, Expr, Given, Insert,
-    List, Select, Source, TabNo, TextVal, Update,
-};
-use aq_bound::{
-    BoundAssignment, BoundBodyStatement, BoundColumns, BoundDelete, BoundElseIf, BoundExpr,
-    BoundFrom, BoundGiven, BoundInsert, BoundSelect, BoundSource, BoundUpdate, Column,
+    Assignment, BodyStatement, BoundAssignment, BoundBodyStatement, BoundColumns, BoundDelete,
+    BoundElseIf, BoundExpr, BoundFrom, BoundGiven, BoundInsert, BoundSelect, BoundSource,
+    BoundUpdate, Boxed, ColNo, Column, Columns, Copies, Delete, ElseIf, Expr, Given, Insert, List,
+    Select, Source, TabNo, TextVal, Update,
 };
 use std::alloc::{AllocError, Global};
 

@@ -6,8 +6,7 @@ ghost use Rattle.aq_catalog.specs.Built.{IsAtLine, IsRefusedAt, IsSetupFault};
 
 use crate::catalog::Catalog;
 use crate::fault::CatFault;
-use aq_base::{Placed, Script, SqlFault};
-use aq_bound::NativeName;
+use aq_base::{NativeName, Placed, Script, SqlFault};
 use std::alloc::Global;
 use thiserror::Error;
 

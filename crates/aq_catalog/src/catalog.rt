@@ -7,8 +7,10 @@ ghost use Rattle.aq_setup.specs.Binding.{is_fixed as fixed};
 
 use crate::name_index::NameIndex;
 use crate::of_table::OfTable;
-use aq_base::{ConNo, KeyNo, List, Same, TextVal};
-use aq_bound::{Column, Constraint, ForeignKey, Function, Table, Trigger, UniqueKey};
+use aq_base::{
+    Column, ConNo, Constraint, ForeignKey, Function, KeyNo, List, Same, Table, TextVal, Trigger,
+    UniqueKey,
+};
 use std::alloc::{AllocError, Global};
 use std::marker::Model;
 
@@ -35,8 +37,8 @@ impl Model for Catalog {
     ghost use Rattle.aq_setup.specs.Catalogs.{Catalog as Made};
     ghost use Rattle.std.specs.Coded.{codes};
     ghost use Rattle.aq_base.specs.contracts.body.BodyStatement as statement;
-    ghost use Rattle.aq_bound.specs.contracts.expr.BoundExpr as expr;
-    ghost use Rattle.aq_bound.specs.contracts.body.BoundBodyStatement as bound_statement;
+    ghost use Rattle.aq_base.specs.contracts.bound_expr.BoundExpr as expr;
+    ghost use Rattle.aq_base.specs.contracts.bound_body.BoundBodyStatement as bound_statement;
 
     ghost Value = { Made };
 

@@ -8,8 +8,9 @@ use crate::catalog::{Catalog, number, one_more};
 use crate::mark::Mark;
 use crate::name_index::NameIndex;
 use crate::of_tables;
-use aq_base::{ColNo, KeyNo, List, TrigNo};
-use aq_bound::{Constraint, ForeignKey, Function, Table, Trigger, UniqueKey};
+use aq_base::{
+    ColNo, Constraint, ForeignKey, Function, KeyNo, List, Table, TrigNo, Trigger, UniqueKey,
+};
 use std::alloc::AllocError;
 
 impl Catalog {

@@ -13,10 +13,9 @@ use crate::fault::CatFault;
 use crate::refusals::{no_boolean, no_negation, no_operator, wrong_value};
 use crate::scopes::{Scope, Setting, no_row, qualified_cols, query_scope, table_scope};
 use aq_base::{
-    Assignment, Comparison, Delete, Expr, Given, Insert, Kind, List, Same, Select, Source, TextVal,
-    Update, Value,
+    Assignment, Column, Comparison, Delete, Expr, Given, Insert, Kind, List, Same, Select, Source,
+    TextVal, Update, Value,
 };
-use aq_bound::Column;
 use std::alloc::Global;
 
 fn is_number(kind: Kind) -> bool
@@ -286,7 +285,7 @@ trait Target {
     ghost use Rattle.std.specs.Prelude.{List, Option};
     ghost use Rattle.aq_base.specs.Names.{Text};
     ghost use Rattle.aq_base.specs.declared.script.Kind.{Kind};
-    ghost use Rattle.aq_bound.specs.declared.catalog.Column.{Column};
+    ghost use Rattle.aq_base.specs.declared.catalog.Column.{Column};
 
     ghost named: { Self → Text };
 

@@ -10,8 +10,7 @@ ghost use Rattle.aq_catalog.specs.Repeating.{assignment_repeated};
 use crate::fault::CatFault;
 use crate::refusals::{assigned_twice, few_values, many_values, unequal_rows};
 use crate::scopes::Setting;
-use aq_base::{Assignment, Given, Insert, List, Same, Source, TextVal, Update};
-use aq_bound::Column;
+use aq_base::{Assignment, Column, Given, Insert, List, Same, Source, TextVal, Update};
 use std::alloc::Global;
 
 fn are_as_long(first: &List<Given>, others: &[List<Given>]) -> bool

@@ -13,8 +13,7 @@ ghost use Rattle.aq_catalog.specs.Indexed.{passes};
 use crate::catalog::Catalog;
 use crate::name_set::NameSet;
 use crate::names::column_at;
-use aq_base::{ColNo, KeyNo, Kind, List, Same, TextVal};
-use aq_bound::{Column, Constraint, UniqueKey};
+use aq_base::{ColNo, Column, Constraint, KeyNo, Kind, List, Same, TextVal, UniqueKey};
 use std::alloc::{AllocError, Global};
 
 /// Whether two texts are the same.

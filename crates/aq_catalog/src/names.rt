@@ -17,9 +17,9 @@ use crate::scopes::{
     Scope, Setting, is_transition, no_row, qualified_cols, query_scope, table_scope,
 };
 use aq_base::{
-    Assignment, Columns, Delete, Expr, Given, Insert, List, Same, Select, Source, TextVal, Update,
+    Assignment, Column, Columns, Delete, Expr, Given, Insert, List, Same, Select, Source, TextVal,
+    Update,
 };
-use aq_bound::Column;
 use std::alloc::Global;
 
 /// The place of the column with a name.

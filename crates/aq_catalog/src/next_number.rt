@@ -12,8 +12,7 @@ use crate::catalog::Catalog;
 use crate::constraints::default_name;
 use crate::lookups::{is_of_at, is_taken};
 use crate::taken::with_number;
-use aq_base::{AlterTable, TableConstraint, TextVal};
-use aq_bound::Constraint;
+use aq_base::{AlterTable, Constraint, TableConstraint, TextVal};
 use std::alloc::{AllocError, Global};
 
 impl Catalog {

@@ -5,8 +5,7 @@ ghost use Rattle.std.specs.Option.{option_copied};
 ghost use Rattle.aq_catalog.specs.Listed.{listed_at, listed_on, with_key_listed, with_trigger_listed, listed_below};
 
 use crate::of_table::OfTable;
-use aq_base::{KeyNo, Op, TrigNo};
-use aq_bound::Trigger;
+use aq_base::{KeyNo, Op, TrigNo, Trigger};
 use std::alloc::AllocError;
 
 /// Room for a table's lists. The error is want of memory.

@@ -17,8 +17,7 @@ use crate::lookups::{
     primary_cols,
 };
 use crate::refusals::{no_primary_key, no_such_key, unequal_columns, unequal_kinds};
-use aq_base::{ColNo, Kind, List, Reference, TextVal};
-use aq_bound::Column;
+use aq_base::{ColNo, Column, Kind, List, Reference, TextVal};
 use std::alloc::{AllocError, Global};
 
 fn copied_primary(

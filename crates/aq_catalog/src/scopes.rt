@@ -5,8 +5,7 @@ ghost use Rattle.std.specs.Option.{option_copied};
 ghost use Rattle.aq_setup.specs.Scopes as scopes;
 
 use crate::catalog::Catalog;
-use aq_base::{Same, TextVal};
-use aq_bound::Column;
+use aq_base::{Column, Same, TextVal};
 use std::marker::Model;
 
 /// Where a statement stands. The columns of OLD and NEW are those of the trigger's table; a statement of a session has none, and no
@@ -24,8 +23,8 @@ impl<'a> Model for Setting<'a> {
     ghost use Rattle.aq_setup.specs.Scopes.{Setting as Of};
     ghost use Rattle.std.specs.Coded.{codes};
     ghost use Rattle.aq_base.specs.contracts.body.BodyStatement as statement;
-    ghost use Rattle.aq_bound.specs.contracts.expr.BoundExpr as expr;
-    ghost use Rattle.aq_bound.specs.contracts.body.BoundBodyStatement as bound_statement;
+    ghost use Rattle.aq_base.specs.contracts.bound_expr.BoundExpr as expr;
+    ghost use Rattle.aq_base.specs.contracts.bound_body.BoundBodyStatement as bound_statement;
 
     ghost Value = { Of };
 

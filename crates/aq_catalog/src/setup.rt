@@ -36,10 +36,9 @@ use crate::taken::NamesTaken;
 use crate::trigger_faults::native_named;
 use crate::wanted::{constraint_trigger, plain_trigger};
 use aq_base::{
-    AlterTable, Copies, CreateConstraintTrigger, CreateFunction, CreateTable, CreateTrigger, List,
-    Statement, TableConstraint, TextVal,
+    AlterTable, Copies, CreateConstraintTrigger, CreateFunction, CreateTable, CreateTrigger,
+    Function, List, NativeName, Statement, Table, TableConstraint, TextVal,
 };
-use aq_bound::{Function, NativeName, Table};
 use std::alloc::{AllocError, Global};
 
 fn created_constraints(

@@ -19,10 +19,9 @@ use crate::names::{delete_names, expression_names, insert_names, select_names, u
 use crate::refusals::{no_constraint, not_deferrable};
 use crate::scopes::{Scope, Setting, in_session, no_row};
 use aq_base::{
-    BodyStatement, ConNo, ConstraintMode, Constraints, Copies, Delete, ElseIf, Expr, Insert, List,
-    Select, SetConstraints, Statement, TextVal, Update,
+    BodyStatement, Bound, BoundConstraints, BoundSet, ConNo, ConstraintMode, Constraints, Copies,
+    Delete, ElseIf, Expr, Insert, List, Select, SetConstraints, Statement, TextVal, Update,
 };
-use aq_bound::{Bound, BoundConstraints, BoundSet};
 use std::alloc::{AllocError, Global};
 
 pub(crate) fn insert_faults(

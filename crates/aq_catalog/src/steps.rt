@@ -8,7 +8,7 @@ ghost use Rattle.aq_setup.specs.Catalogs as catalogs;
 ghost use Rattle.aq_setup.specs.References as references;
 ghost use Rattle.aq_setup.specs.Tables as tables;
 ghost use Rattle.aq_base.specs.declared.catalog.Op.TheVariants as ops;
-ghost use Rattle.aq_bound.specs.declared.catalog.Does.TheVariants.{Check, Parent};
+ghost use Rattle.aq_base.specs.declared.catalog.Does.TheVariants.{Check, Parent};
 ghost use Rattle.aq_catalog.specs.Steps.{Extends, Follows, nulls_in, made_fk, made_triggers, among_places};
 
 use crate::added::Referring;
@@ -17,10 +17,9 @@ use crate::constraints::NamedConstraint;
 use crate::lookups::{in_16_bits, is_column_in, number_of_table, numbers_of_columns};
 use crate::references::parent_cols;
 use aq_base::{
-    Action, ColNo, ConNo, Copies, Decl, Each, FkNo, KeyNo, List, Match, Op, Reference, TabNo,
-    TableConstraint, TextVal,
+    Action, ColNo, ConNo, Constraint, Copies, Decl, Does, Each, FkNo, ForeignKey, KeyNo, List,
+    Match, Op, Reference, TabNo, Table, TableConstraint, TextVal, Trigger, UniqueKey,
 };
-use aq_bound::{Constraint, Does, ForeignKey, Table, Trigger, UniqueKey};
 use itoa::Buffer;
 use std::alloc::{AllocError, Global};
 

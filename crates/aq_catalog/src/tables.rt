@@ -19,10 +19,9 @@ use crate::kinds::same_kind;
 use crate::lookups::in_16_bits;
 use crate::refusals::{over_limit, relation_exists, wrong_default};
 use aq_base::{
-    ColNo, ColumnConstraint, Copies, CreateTable, Kind, List, TableConstraint, TableItem, TextVal,
-    Value,
+    ColNo, Column, ColumnConstraint, Copies, CreateTable, Kind, List, Table, TableConstraint,
+    TableItem, TextVal, Value,
 };
-use aq_bound::{Column, Table};
 use std::alloc::{AllocError, Global};
 
 fn default_in(found: &[ColumnConstraint]) -> Result<Value, AllocError>

@@ -30,8 +30,7 @@ use crate::refusals::{
 use crate::scopes::{Setting, in_session, no_row};
 use crate::statements::{body_faults, condition_faults};
 use crate::wanted::Wanted;
-use aq_base::{Expr, Same, TextVal};
-use aq_bound::{Column, Does, NativeName, Trigger};
+use aq_base::{Column, Does, Expr, NativeName, Same, TextVal, Trigger};
 use std::alloc::Global;
 
 const MAX_TRIGGERS: usize = 256;

@@ -17,8 +17,10 @@ use crate::lookups::{in_16_bits, numbers_of_columns};
 use crate::scopes::no_row;
 use crate::trigger_faults::{trigger_faults, trigger_setting};
 use crate::wanted::Wanted;
-use aq_base::{ColNo, ConNo, Copies, Decl, Expr, List, TabNo, TextVal};
-use aq_bound::{BoundExpr, Column, Constraint, Does, NativeName, Trigger};
+use aq_base::{
+    BoundExpr, ColNo, Column, ConNo, Constraint, Copies, Decl, Does, Expr, List, NativeName, TabNo,
+    TextVal, Trigger,
+};
 use std::alloc::{AllocError, Global};
 
 /// A function's body, or else the native check of that name.

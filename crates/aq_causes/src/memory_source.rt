@@ -7,7 +7,7 @@ use aq_base::List;
 use std::marker::Model;
 
 /// A source of given bytes, which fails at given calls.
-#[derive(Debug, Drop)]
+#[derive(Drop)]
 pub struct MemorySource {
     bytes: List<u8>,
     at: usize,

@@ -6,7 +6,7 @@ use aq_base::{List, NoMemory};
 use std::alloc::Global;
 
 /// What reading a source to its end answers.
-#[derive(Debug, Drop)]
+#[derive(Drop)]
 pub enum Gathered {
     /// All the bytes.
     All(List<u8>),

@@ -3,7 +3,7 @@ ghost use Rattle.std.specs.declared.option.Option.{Option};
 ghost use Rattle.aq_causes.specs.Put.{PutCases};
 
 /// What a write to a sink answers.
-#[derive(Clone, Copy, Debug, PartialEq, Eq)]
+#[derive(Clone, Copy, PartialEq, Eq)]
 pub enum Put {
     /// So many bytes, at least one, were taken from the front of the piece.
     Took(usize),

@@ -3,7 +3,7 @@ ghost use Rattle.std.specs.declared.option.Option.{Option};
 ghost use Rattle.aq_causes.specs.Taken.{TakenCases};
 
 /// What a read of a source answers.
-#[derive(Clone, Copy, Debug, PartialEq, Eq)]
+#[derive(Clone, Copy, PartialEq, Eq)]
 pub enum Taken {
     /// So many bytes, at least one, stand at the front of the buffer.
     Got(usize),

@@ -4,7 +4,7 @@ ghost use Rattle.aq_causes.specs.Written.{WrittenCases};
 use crate::sink::{Put, Sink};
 
 /// What writing all bytes to a sink answers.
-#[derive(Clone, Copy, Debug, PartialEq, Eq)]
+#[derive(Clone, Copy, PartialEq, Eq)]
 pub enum Written {
     /// The sink took all of them.
     Done,

@@ -3,8 +3,8 @@ use Rattle.std.proofs.Common.{◌≡◌, ℕ, Ok, sym, ap, ◌∙◌}
 use Rattle.std.specs.Option.{option_copied}
 use Rattle.aq_base.specs.declared.value.Value.{Value}
 use Rattle.aq_base.specs.declared.expr.Comparison.{Comparison}
-use Rattle.aq_bound.specs.declared.expr.BoundExpr.{BoundExpr, fold-roll-BoundExpr}
-use Rattle.aq_bound.specs.declared.expr.BoundExpr.TheVariants.{Constant, Column, Old, New, Operation, Negate, Multiply, Add, Subtract, Compare, IsNull, IsNotNull, IsDistinct, IsNotDistinct, Not, And, Or, rolls-Constant, rolls-Column, rolls-Old, rolls-New, rolls-Operation, rolls-Negate, rolls-Multiply, rolls-Add, rolls-Subtract, rolls-Compare, rolls-IsNull, rolls-IsNotNull, rolls-IsDistinct, rolls-IsNotDistinct, rolls-Not, rolls-And, rolls-Or}
+use Rattle.aq_base.specs.declared.bound_expr.BoundExpr.{BoundExpr, fold-roll-BoundExpr}
+use Rattle.aq_base.specs.declared.bound_expr.BoundExpr.TheVariants.{Constant, Column, Old, New, Operation, Negate, Multiply, Add, Subtract, Compare, IsNull, IsNotNull, IsDistinct, IsNotDistinct, Not, And, Or, rolls-Constant, rolls-Column, rolls-Old, rolls-New, rolls-Operation, rolls-Negate, rolls-Multiply, rolls-Add, rolls-Subtract, rolls-Compare, rolls-IsNull, rolls-IsNotNull, rolls-IsDistinct, rolls-IsNotDistinct, rolls-Not, rolls-And, rolls-Or}
 use Rattle.aq_expr.specs.declared.env.Env.{Env}
 use Rattle.aq_expr.specs.Operators.{Answer, with_value, with_both, negation_of, sum_of, difference_of, product_of, comparison_of, null_test_of, not_null_test_of, distinct_of, not_distinct_of, not_of, and_of, or_of, cell_of, operation_of}
 use Rattle.aq_expr.specs.Evaluation.{value_of, value_step}

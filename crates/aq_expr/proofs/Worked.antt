@@ -4,8 +4,8 @@ use Rattle.aq_base.specs.declared.value.Value.{Value}
 use Rattle.aq_base.specs.declared.value.Value.TheVariants as values
 use Rattle.aq_base.specs.declared.script.Kind.TheVariants as kinds
 use Rattle.aq_base.specs.declared.expr.Comparison.TheVariants as comparisons
-use Rattle.aq_bound.specs.declared.expr.BoundExpr.{BoundExpr}
-use Rattle.aq_bound.specs.declared.expr.BoundExpr.TheVariants.{Constant, Add, Compare, IsNull, IsDistinct, Not, And, Or}
+use Rattle.aq_base.specs.declared.bound_expr.BoundExpr.{BoundExpr}
+use Rattle.aq_base.specs.declared.bound_expr.BoundExpr.TheVariants.{Constant, Add, Compare, IsNull, IsDistinct, Not, And, Or}
 use Rattle.aq_expr.specs.declared.env.Env.{Env}
 use Rattle.aq_expr.specs.Operators.{Answer, with_value, with_both, sum_of, comparison_of, null_test_of, distinct_of, not_of, and_of, or_of, stored}
 use Rattle.aq_expr.specs.Evaluation.{value_of}

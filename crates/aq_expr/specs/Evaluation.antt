@@ -3,8 +3,8 @@
 use Rattle.std.specs.Prelude.{Bool, Option, Result, Ok, Err}
 use Rattle.std.specs.Option.{option_copied}
 use Rattle.aq_base.specs.declared.script.Kind.{Kind}
-use Rattle.aq_bound.specs.declared.expr.BoundExpr.{BoundExpr, BoundExpr-F, fold-BoundExpr}
-use Rattle.aq_bound.specs.declared.expr.BoundExpr.TheOpen.{Constant, Column, Old, New, Operation, Negate, Multiply, Add, Subtract, Compare, IsNull, IsNotNull, IsDistinct, IsNotDistinct, Not, And, Or}
+use Rattle.aq_base.specs.declared.bound_expr.BoundExpr.{BoundExpr, BoundExpr-F, fold-BoundExpr}
+use Rattle.aq_base.specs.declared.bound_expr.BoundExpr.TheOpen.{Constant, Column, Old, New, Operation, Negate, Multiply, Add, Subtract, Compare, IsNull, IsNotNull, IsDistinct, IsNotDistinct, Not, And, Or}
 use Rattle.aq_expr.specs.declared.env.Env.{Env}
 use Rattle.aq_expr.specs.Operators.{Answer, with_value, with_both, negation_of, sum_of, difference_of, product_of, comparison_of, null_test_of, not_null_test_of, distinct_of, not_distinct_of, not_of, and_of, or_of, truth_of, cell_of, operation_of}
 

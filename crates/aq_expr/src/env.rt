@@ -1,7 +1,7 @@
 use aq_base::{Op, Row};
 
 /// What an expression is evaluated on. What is left out reads as null.
-#[derive(Clone, Copy, Debug)]
+#[derive(Clone, Copy)]
 pub struct Env<'a> {
     /// The row at hand.
     pub row: Option<&'a Row>,

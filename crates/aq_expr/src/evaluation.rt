@@ -11,8 +11,7 @@ use crate::env::Env;
 use crate::fault::{Answer, EvalFault};
 use crate::leaves::{cell, operation};
 use crate::logic::{conjunction, disjunction, opposite};
-use aq_base::{Copies, Value};
-use aq_bound::BoundExpr;
+use aq_base::{BoundExpr, Copies, Value};
 use std::alloc::{AllocError, Global};
 
 /// The value, or the kind that it is out of the range of. The error is want of memory.

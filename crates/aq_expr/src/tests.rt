@@ -1,6 +1,8 @@
 use super::*;
-use aq_base::{Boxed, ColNo, Comparison, Kind, List, NoMemory, Op, Row, Same, TextVal, Value};
-use aq_bound::{BoundExpr, copy_bound};
+use aq_base::{
+    BoundExpr, Boxed, ColNo, Comparison, Kind, List, NoMemory, Op, Row, Same, TextVal, Value,
+    copy_bound,
+};
 use std::alloc::Global;
 use std::test::*;
 

@@ -455,7 +455,7 @@ fn referencing<'a>(alloc: Global, tokens: &Lexed<'a>) -> Read<'a, Option<List<Tr
 }
 
 /// The events of a trigger and its table.
-#[derive(Debug, Drop)]
+#[derive(Drop)]
 struct Watch {
     events: List<TriggerEvent>,
     table: TextVal,
@@ -482,7 +482,7 @@ fn watched<'a>(alloc: Global, tokens: &Lexed<'a>) -> Read<'a, Watch>
 }
 
 /// What a trigger does, and where.
-#[derive(Debug, Drop)]
+#[derive(Drop)]
 struct Action {
     condition: Option<Expr>,
     function: TextVal,

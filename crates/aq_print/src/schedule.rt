@@ -6,13 +6,14 @@ ghost use Rattle.std.specs.Fmt.{decimal};
 ghost use Rattle.aq_texts.specs.Schedules.{name_at, run_item, runs_of, schedule_line};
 
 use crate::numbers::push_number;
-use aq_base::{List, NoMemory, SimpleSession, TextVal};
+use aq_base::{List, NoMemory, TextVal};
+use aq_first_base::SimpleSession;
 use aq_xids::SessNo;
 use std::alloc::Global;
 use std::marker::Model;
 
 /// The sessions that stepped, in order. Contracts see it as the list of their numbers.
-#[derive(Debug, Drop)]
+#[derive(Drop)]
 pub struct Runs {
     steps: Vec<u8>,
 }

@@ -27,30 +27,30 @@ use Rattle.aq_base.specs.declared.body.BodyStatement.TheOpen as bodies
 use Rattle.aq_base.specs.declared.body.ElseIf.{ElseIf-F}
 use Rattle.aq_base.specs.declared.statement.Statement.{Statement}
 use Rattle.aq_base.specs.declared.statement.Statement.TheVariants as statements
-use Rattle.aq_bound.specs.declared.catalog.Column.{Column as TableColumn}
-use Rattle.aq_bound.specs.declared.expr.BoundExpr.{BoundExpr}
-use Rattle.aq_bound.specs.declared.expr.BoundExpr.TheVariants.{Constant, Column, Old, New, Operation, Negate, Multiply, Add, Subtract, Compare, IsNull, IsNotNull, IsDistinct, IsNotDistinct, Not, And, Or}
-use Rattle.aq_bound.specs.declared.data.BoundGiven.{BoundGiven}
-use Rattle.aq_bound.specs.declared.data.BoundGiven.TheVariants as bound_givens
-use Rattle.aq_bound.specs.declared.data.BoundFrom.{BoundFrom}
-use Rattle.aq_bound.specs.declared.data.BoundFrom.TheVariants as rows_of
-use Rattle.aq_bound.specs.declared.data.BoundSource.{BoundSource}
-use Rattle.aq_bound.specs.declared.data.BoundSource.TheVariants as bound_sources
-use Rattle.aq_bound.specs.declared.data.BoundInsert.{BoundInsert}
-use Rattle.aq_bound.specs.declared.data.BoundAssignment.{BoundAssignment}
-use Rattle.aq_bound.specs.declared.data.BoundUpdate.{BoundUpdate}
-use Rattle.aq_bound.specs.declared.data.BoundDelete.{BoundDelete}
-use Rattle.aq_bound.specs.declared.data.BoundColumns.{BoundColumns}
-use Rattle.aq_bound.specs.declared.data.BoundColumns.TheVariants as bound_shown
-use Rattle.aq_bound.specs.declared.data.BoundSelect.{BoundSelect}
-use Rattle.aq_bound.specs.declared.statement.BoundConstraints.{BoundConstraints}
-use Rattle.aq_bound.specs.declared.statement.BoundConstraints.TheVariants as bound_constrained
-use Rattle.aq_bound.specs.declared.statement.BoundSet.{BoundSet}
-use Rattle.aq_bound.specs.declared.statement.Bound.{Bound}
-use Rattle.aq_bound.specs.declared.statement.Bound.TheVariants as bound_statements
-use Rattle.aq_bound.specs.declared.body.BoundBodyStatement.{BoundBodyStatement}
-use Rattle.aq_bound.specs.declared.body.BoundBodyStatement.TheVariants as bound_bodies
-use Rattle.aq_bound.specs.declared.body.BoundElseIf.{BoundElseIf}
+use Rattle.aq_base.specs.declared.catalog.Column.{Column as TableColumn}
+use Rattle.aq_base.specs.declared.bound_expr.BoundExpr.{BoundExpr}
+use Rattle.aq_base.specs.declared.bound_expr.BoundExpr.TheVariants.{Constant, Column, Old, New, Operation, Negate, Multiply, Add, Subtract, Compare, IsNull, IsNotNull, IsDistinct, IsNotDistinct, Not, And, Or}
+use Rattle.aq_base.specs.declared.bound_data.BoundGiven.{BoundGiven}
+use Rattle.aq_base.specs.declared.bound_data.BoundGiven.TheVariants as bound_givens
+use Rattle.aq_base.specs.declared.bound_data.BoundFrom.{BoundFrom}
+use Rattle.aq_base.specs.declared.bound_data.BoundFrom.TheVariants as rows_of
+use Rattle.aq_base.specs.declared.bound_data.BoundSource.{BoundSource}
+use Rattle.aq_base.specs.declared.bound_data.BoundSource.TheVariants as bound_sources
+use Rattle.aq_base.specs.declared.bound_data.BoundInsert.{BoundInsert}
+use Rattle.aq_base.specs.declared.bound_data.BoundAssignment.{BoundAssignment}
+use Rattle.aq_base.specs.declared.bound_data.BoundUpdate.{BoundUpdate}
+use Rattle.aq_base.specs.declared.bound_data.BoundDelete.{BoundDelete}
+use Rattle.aq_base.specs.declared.bound_data.BoundColumns.{BoundColumns}
+use Rattle.aq_base.specs.declared.bound_data.BoundColumns.TheVariants as bound_shown
+use Rattle.aq_base.specs.declared.bound_data.BoundSelect.{BoundSelect}
+use Rattle.aq_base.specs.declared.bound_statement.BoundConstraints.{BoundConstraints}
+use Rattle.aq_base.specs.declared.bound_statement.BoundConstraints.TheVariants as bound_constrained
+use Rattle.aq_base.specs.declared.bound_statement.BoundSet.{BoundSet}
+use Rattle.aq_base.specs.declared.bound_statement.Bound.{Bound}
+use Rattle.aq_base.specs.declared.bound_statement.Bound.TheVariants as bound_statements
+use Rattle.aq_base.specs.declared.bound_body.BoundBodyStatement.{BoundBodyStatement}
+use Rattle.aq_base.specs.declared.bound_body.BoundBodyStatement.TheVariants as bound_bodies
+use Rattle.aq_base.specs.declared.bound_body.BoundElseIf.{BoundElseIf}
 use Rattle.aq_setup.specs.Catalogs.{Catalog, table_columns, constraints_named}
 use Rattle.aq_setup.specs.Scopes.{Setting, in_session, Scope, no_row, table_scope, is_text, query_scope, number_of_table, number_of_column}
 use Rattle.aq_setup.specs.Names.{expression_names, insert_names, update_names, delete_names, select_names}

@@ -21,7 +21,7 @@ use Rattle.aq_base.specs.declared.data.Assignment.{Assignment}
 use Rattle.aq_base.specs.declared.data.Update.{Update}
 use Rattle.aq_base.specs.declared.data.Delete.{Delete}
 use Rattle.aq_base.specs.declared.data.Select.{Select}
-use Rattle.aq_bound.specs.declared.catalog.Column.{Column}
+use Rattle.aq_base.specs.declared.catalog.Column.{Column}
 use Rattle.aq_setup.specs.Catalogs.{table_columns, column_kind}
 use Rattle.aq_setup.specs.Scopes.{Setting, Scope, no_row, table_scope, query_scope, qualified_cols}
 use Rattle.aq_setup.specs.Faults.{wrong_value, no_boolean, no_operator, no_negation}

@@ -9,7 +9,7 @@ use Rattle.aq_base.specs.declared.data.Source.{Source}
 use Rattle.aq_base.specs.declared.data.Source.TheVariants as sources
 use Rattle.aq_base.specs.declared.data.Insert.{Insert}
 use Rattle.aq_base.specs.declared.data.Update.{Update}
-use Rattle.aq_bound.specs.declared.catalog.Column.{Column}
+use Rattle.aq_base.specs.declared.catalog.Column.{Column}
 use Rattle.aq_setup.specs.Catalogs.{table_columns}
 use Rattle.aq_setup.specs.Scopes.{Setting, repeats}
 use Rattle.aq_setup.specs.Faults.{assigned_twice, unequal_rows, many_values, few_values}

@@ -17,7 +17,7 @@ use Rattle.aq_base.specs.declared.data.Delete.{Delete}
 use Rattle.aq_base.specs.declared.data.Columns.{Columns}
 use Rattle.aq_base.specs.declared.data.Columns.TheVariants as shown
 use Rattle.aq_base.specs.declared.data.Select.{Select}
-use Rattle.aq_bound.specs.declared.catalog.Column.{Column}
+use Rattle.aq_base.specs.declared.catalog.Column.{Column}
 use Rattle.aq_setup.specs.Catalogs.{Catalog, table_number, table_columns, column_number}
 use Rattle.aq_setup.specs.Scopes.{Setting, Scope, no_row, table_scope, is_transition, query_scope, qualified_cols}
 use Rattle.aq_setup.specs.Faults.{no_relation, no_target, no_column, column_twice}

@@ -6,7 +6,7 @@ use Rattle.aq_base.specs.Names.{Text}
 use Rattle.aq_base.specs.declared.fault.SqlFault.{SqlFault}
 use Rattle.aq_base.specs.declared.script.Kind.{Kind}
 use Rattle.aq_base.specs.declared.constraint.Reference.{Reference}
-use Rattle.aq_bound.specs.declared.catalog.Column.{Column}
+use Rattle.aq_base.specs.declared.catalog.Column.{Column}
 use Rattle.aq_setup.specs.Catalogs.{Catalog, table_columns, primary_cols, is_number_in}
 use Rattle.aq_setup.specs.Scopes.{number_of_table, number_of_column}
 use Rattle.aq_setup.specs.Kinds.{same_kind}

@@ -7,7 +7,7 @@ use Rattle.aq_base.specs.declared.statement.Statement.{Statement}
 use Rattle.aq_base.specs.declared.statement.Statement.TheVariants as statements
 use Rattle.aq_base.specs.declared.script.Placed.{Placed}
 use Rattle.aq_base.specs.declared.script.Script.{Script}
-use Rattle.aq_bound.specs.declared.catalog.NativeName.{NativeName}
+use Rattle.aq_base.specs.declared.catalog.NativeName.{NativeName}
 use Rattle.aq_setup.specs.Catalogs.{Catalog, no_tables, function_named, native_named}
 use Rattle.aq_setup.specs.Tables.{created, altered, with_added, create_table_faults, alter_table_faults}
 use Rattle.aq_setup.specs.Triggers.{plain_trigger, constraint_trigger, create_trigger_faults, with_trigger}

@@ -25,11 +25,11 @@ use Rattle.aq_base.specs.declared.table.TableItem.TheVariants as items
 use Rattle.aq_base.specs.declared.table.CreateTable.{CreateTable}
 use Rattle.aq_base.specs.declared.table.AlterTable.{AlterTable}
 use Rattle.aq_base.specs.declared.trigger.Each.TheVariants as each
-use Rattle.aq_bound.specs.declared.catalog.Column.{Column}
-use Rattle.aq_bound.specs.declared.catalog.Table.{Table}
-use Rattle.aq_bound.specs.declared.catalog.Trigger.{Trigger}
-use Rattle.aq_bound.specs.declared.catalog.Does.{Does}
-use Rattle.aq_bound.specs.declared.catalog.Does.TheVariants.{Check, Parent}
+use Rattle.aq_base.specs.declared.catalog.Column.{Column}
+use Rattle.aq_base.specs.declared.catalog.Table.{Table}
+use Rattle.aq_base.specs.declared.catalog.Trigger.{Trigger}
+use Rattle.aq_base.specs.declared.catalog.Does.{Does}
+use Rattle.aq_base.specs.declared.catalog.Does.TheVariants.{Check, Parent}
 use Rattle.aq_setup.specs.Catalogs.{Catalog, table_number, table_columns, columns_at, places, is_number_in, primary_cols, constraint_names}
 use Rattle.aq_setup.specs.Scopes.{number_of_table, number_of_column, repeats, repeats_behind}
 use Rattle.aq_setup.specs.Names.{unknown, table_faults}

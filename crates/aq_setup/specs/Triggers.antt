@@ -18,10 +18,10 @@ use Rattle.aq_base.specs.declared.trigger.Each.{Each}
 use Rattle.aq_base.specs.declared.trigger.Each.TheVariants as each
 use Rattle.aq_base.specs.declared.trigger.CreateTrigger.{CreateTrigger}
 use Rattle.aq_base.specs.declared.trigger.CreateConstraintTrigger.{CreateConstraintTrigger}
-use Rattle.aq_bound.specs.declared.catalog.Does.{Does}
-use Rattle.aq_bound.specs.declared.catalog.Does.TheVariants.{Check, Parent, Body, Native}
-use Rattle.aq_bound.specs.declared.catalog.Trigger.{Trigger}
-use Rattle.aq_bound.specs.declared.catalog.NativeName.{NativeName}
+use Rattle.aq_base.specs.declared.catalog.Does.{Does}
+use Rattle.aq_base.specs.declared.catalog.Does.TheVariants.{Check, Parent, Body, Native}
+use Rattle.aq_base.specs.declared.catalog.Trigger.{Trigger}
+use Rattle.aq_base.specs.declared.catalog.NativeName.{NativeName}
 use Rattle.aq_setup.specs.Catalogs.{Catalog, table_number, table_columns, function_named, native_named, trigger_names}
 use Rattle.aq_setup.specs.Scopes.{Setting, no_row, number_of_table, number_of_column, repeats}
 use Rattle.aq_setup.specs.Names.{unknown, table_faults}

@@ -2,7 +2,7 @@
 use Rattle.std.proofs.Common.{◌≡◌, ℕ, ◌+◌, List, take, drop, Some, None, refl, add-one}
 use Rattle.std.specs.List.{slice_get}
 use Rattle.aq_base.specs.declared.script.Placed.{Placed}
-use Rattle.aq_base.specs.declared.simple.SimplePlaced.{SimplePlaced}
+use Rattle.aq_first_base.specs.declared.simple.SimplePlaced.{SimplePlaced}
 use Rattle.aq_simple.specs.Conditions.{definition_kept}
 use Rattle.aq_simple.specs.Forms.{simple_statements}
 use Rattle.aq_simple.specs.Simple.{line_unless, line_not, is_simple_and, keeps_setup}

@@ -1,7 +1,7 @@
 -- The names and limits of a script, by the statements before a place and by the catalog that these make.
 use Rattle.std.proofs.Common.{◌≡◌, ℕ, ◌+◌, ◌≤◌, Bool, true, ◌&&◌, ◌||◌, List, [], ◌∷◌, length, map, take, drop, Some, refl, ap, add-one}
 use Rattle.std.specs.List.{list_any, slice_get}
-use Rattle.aq_base.specs.declared.simple.SimplePlaced.{SimplePlaced}
+use Rattle.aq_first_base.specs.declared.simple.SimplePlaced.{SimplePlaced}
 use Rattle.aq_simple.specs.Conditions.{definition_kept, setup_kept}
 use Rattle.aq_simple.proofs.Lists.{take_one, drop_one, drop_all}
 

@@ -5,14 +5,14 @@ use Rattle.std.specs.List.{list_all}
 use Rattle.std.proofs.lemmas.Bool.{and_parts, le-leb, leb-true}
 use Rattle.std.proofs.lemmas.List.Sums.{sum_by-cons, sum_by_push}
 use Rattle.aq_base.specs.Names.{is_name}
-use Rattle.aq_base.specs.Scripts.{rows_in, rows_in_session}
+use Rattle.aq_first_base.specs.Scripts.{rows_in, rows_in_session}
 use Rattle.aq_base.specs.declared.script.Placed.{Placed}
 use Rattle.aq_base.specs.declared.script.SessionText.{SessionText}
 use Rattle.aq_base.specs.declared.script.Script.{Script}
-use Rattle.aq_base.specs.declared.simple.SimpleStatement.{SimpleStatement}
-use Rattle.aq_base.specs.declared.simple.SimplePlaced.{SimplePlaced}
-use Rattle.aq_base.specs.declared.simple.SimpleSession.{SimpleSession}
-use Rattle.aq_base.specs.declared.simple.SimpleScript.{SimpleScript}
+use Rattle.aq_first_base.specs.declared.simple.SimpleStatement.{SimpleStatement}
+use Rattle.aq_first_base.specs.declared.simple.SimplePlaced.{SimplePlaced}
+use Rattle.aq_first_base.specs.declared.simple.SimpleSession.{SimpleSession}
+use Rattle.aq_first_base.specs.declared.simple.SimpleScript.{SimpleScript}
 use Rattle.aq_simple.specs.Conditions.{definition_kept, setup_kept, run_kept, session_kept, statements_in, script_kept}
 use Rattle.aq_simple.specs.Forms.{all_of, simple_statement, simple_placed, simple_statements, simple_session, simple_script}
 use Rattle.aq_simple.specs.Simple.{Runs, line_not, rows_of, keeps_setup, keeps_session, sessions_line, statement_line}

@@ -11,21 +11,21 @@ use Rattle.std.proofs.lemmas.Iterator.Adapters.{position_from-zero}
 use Rattle.std.proofs.lemmas.Option.{slice_get_past}
 use Rattle.aq_base.specs.Values.{Row}
 use Rattle.aq_base.specs.Names.{Text, same_text, is_name, is_short, all_differ, primary_key_name, foreign_key_name}
-use Rattle.aq_base.specs.Catalogs.{Catalog}
-use Rattle.aq_base.specs.Setup.{no_tables, table_number, referred, is_primary, column_of, primary_items, adds_table, adds_key, adds_keys, adds_foreign_key, adds_reference, adds_references, creates, setup_from, catalog_of}
-use Rattle.aq_base.specs.Scripts.{is_reference, constraint_fits, column_fits, with_keys, can_create, can_set_up, rows_fit, table_named, can_run, session_fits, rows_in_session, fits_first_language}
-use Rattle.aq_base.specs.declared.catalog.Table.{Table}
-use Rattle.aq_base.specs.declared.catalog.UniqueKey.{UniqueKey}
-use Rattle.aq_base.specs.declared.catalog.ForeignKey.{ForeignKey}
+use Rattle.aq_first_base.specs.Catalogs.{Catalog}
+use Rattle.aq_first_base.specs.Setup.{no_tables, table_number, referred, is_primary, column_of, primary_items, adds_table, adds_key, adds_keys, adds_foreign_key, adds_reference, adds_references, creates, setup_from, catalog_of}
+use Rattle.aq_first_base.specs.Scripts.{is_reference, constraint_fits, column_fits, with_keys, can_create, can_set_up, rows_fit, table_named, can_run, session_fits, rows_in_session, fits_first_language}
+use Rattle.aq_first_base.specs.declared.catalog.Table.{Table}
+use Rattle.aq_first_base.specs.declared.catalog.UniqueKey.{UniqueKey}
+use Rattle.aq_first_base.specs.declared.catalog.ForeignKey.{ForeignKey}
 use Rattle.aq_base.specs.declared.catalog.Decl.{Decl}
-use Rattle.aq_base.specs.declared.simple.SimpleConstraint.{SimpleConstraint}
-use Rattle.aq_base.specs.declared.simple.SimpleConstraint.TheVariants.{PrimaryKey, References}
-use Rattle.aq_base.specs.declared.simple.SimpleColumn.{SimpleColumn}
-use Rattle.aq_base.specs.declared.simple.SimpleStatement.{SimpleStatement}
-use Rattle.aq_base.specs.declared.simple.SimpleStatement.TheVariants.{CreateTable, Insert, Delete, Begin, Commit, Rollback}
-use Rattle.aq_base.specs.declared.simple.SimplePlaced.{SimplePlaced}
-use Rattle.aq_base.specs.declared.simple.SimpleSession.{SimpleSession}
-use Rattle.aq_base.specs.declared.simple.SimpleScript.{SimpleScript}
+use Rattle.aq_first_base.specs.declared.simple.SimpleConstraint.{SimpleConstraint}
+use Rattle.aq_first_base.specs.declared.simple.SimpleConstraint.TheVariants.{PrimaryKey, References}
+use Rattle.aq_first_base.specs.declared.simple.SimpleColumn.{SimpleColumn}
+use Rattle.aq_first_base.specs.declared.simple.SimpleStatement.{SimpleStatement}
+use Rattle.aq_first_base.specs.declared.simple.SimpleStatement.TheVariants.{CreateTable, Insert, Delete, Begin, Commit, Rollback}
+use Rattle.aq_first_base.specs.declared.simple.SimplePlaced.{SimplePlaced}
+use Rattle.aq_first_base.specs.declared.simple.SimpleSession.{SimpleSession}
+use Rattle.aq_first_base.specs.declared.simple.SimpleScript.{SimpleScript}
 use Rattle.aq_simple.specs.Conditions.{created, items_named, items_with, primaries_in, references_in, has_primary, constraint_kept, column_kept, statement_references, references_before, create_kept, setup_kept, rows_kept, run_kept, session_kept, statements_in, script_kept}
 
 -- ---- what statements make

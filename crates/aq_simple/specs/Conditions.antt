@@ -4,16 +4,16 @@ use Rattle.std.specs.List.{list_all, list_any}
 use Rattle.std.specs.Option.{option_or}
 use Rattle.aq_base.specs.Values.{Row}
 use Rattle.aq_base.specs.Names.{Text, same_text, is_name, is_short, all_differ, primary_key_name, foreign_key_name}
-use Rattle.aq_base.specs.Setup.{is_primary}
-use Rattle.aq_base.specs.Scripts.{is_reference, rows_in_session}
-use Rattle.aq_base.specs.declared.simple.SimpleConstraint.{SimpleConstraint}
-use Rattle.aq_base.specs.declared.simple.SimpleConstraint.TheVariants.{PrimaryKey, References}
-use Rattle.aq_base.specs.declared.simple.SimpleColumn.{SimpleColumn}
-use Rattle.aq_base.specs.declared.simple.SimpleStatement.{SimpleStatement}
-use Rattle.aq_base.specs.declared.simple.SimpleStatement.TheVariants.{CreateTable, Insert, Delete, Begin, Commit, Rollback}
-use Rattle.aq_base.specs.declared.simple.SimplePlaced.{SimplePlaced}
-use Rattle.aq_base.specs.declared.simple.SimpleSession.{SimpleSession}
-use Rattle.aq_base.specs.declared.simple.SimpleScript.{SimpleScript}
+use Rattle.aq_first_base.specs.Setup.{is_primary}
+use Rattle.aq_first_base.specs.Scripts.{is_reference, rows_in_session}
+use Rattle.aq_first_base.specs.declared.simple.SimpleConstraint.{SimpleConstraint}
+use Rattle.aq_first_base.specs.declared.simple.SimpleConstraint.TheVariants.{PrimaryKey, References}
+use Rattle.aq_first_base.specs.declared.simple.SimpleColumn.{SimpleColumn}
+use Rattle.aq_first_base.specs.declared.simple.SimpleStatement.{SimpleStatement}
+use Rattle.aq_first_base.specs.declared.simple.SimpleStatement.TheVariants.{CreateTable, Insert, Delete, Begin, Commit, Rollback}
+use Rattle.aq_first_base.specs.declared.simple.SimplePlaced.{SimplePlaced}
+use Rattle.aq_first_base.specs.declared.simple.SimpleSession.{SimpleSession}
+use Rattle.aq_first_base.specs.declared.simple.SimpleScript.{SimpleScript}
 
 -- the columns of a statement that creates a table of a name
 abbrev pub created : Text → SimpleStatement → Option (List SimpleColumn)

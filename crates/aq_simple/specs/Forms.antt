@@ -31,14 +31,14 @@ use Rattle.aq_base.specs.declared.statement.Isolation.{Isolation}
 use Rattle.aq_base.specs.declared.statement.Isolation.TheVariants.{ReadCommitted, RepeatableRead}
 use Rattle.aq_base.specs.declared.statement.Statement.{Statement}
 use Rattle.aq_base.specs.declared.statement.Statement.TheVariants as statements
-use Rattle.aq_base.specs.declared.simple.SimpleConstraint.{SimpleConstraint}
-use Rattle.aq_base.specs.declared.simple.SimpleConstraint.TheVariants as constraints
-use Rattle.aq_base.specs.declared.simple.SimpleColumn.{SimpleColumn}
-use Rattle.aq_base.specs.declared.simple.SimpleStatement.{SimpleStatement}
-use Rattle.aq_base.specs.declared.simple.SimpleStatement.TheVariants as simple
-use Rattle.aq_base.specs.declared.simple.SimplePlaced.{SimplePlaced}
-use Rattle.aq_base.specs.declared.simple.SimpleSession.{SimpleSession}
-use Rattle.aq_base.specs.declared.simple.SimpleScript.{SimpleScript}
+use Rattle.aq_first_base.specs.declared.simple.SimpleConstraint.{SimpleConstraint}
+use Rattle.aq_first_base.specs.declared.simple.SimpleConstraint.TheVariants as constraints
+use Rattle.aq_first_base.specs.declared.simple.SimpleColumn.{SimpleColumn}
+use Rattle.aq_first_base.specs.declared.simple.SimpleStatement.{SimpleStatement}
+use Rattle.aq_first_base.specs.declared.simple.SimpleStatement.TheVariants as simple
+use Rattle.aq_first_base.specs.declared.simple.SimplePlaced.{SimplePlaced}
+use Rattle.aq_first_base.specs.declared.simple.SimpleSession.{SimpleSession}
+use Rattle.aq_first_base.specs.declared.simple.SimpleScript.{SimpleScript}
 
 -- what each element gives, in order; none where one of them gives nothing
 abbrev pub all_of : {A B : Type 0} → (A → Option B) → List A → Option (List B)

@@ -1,13 +1,13 @@
 -- Which script of the forms that the machine runs a script is, and the line at which it leaves them.
 use Rattle.std.specs.Prelude.{◌≡◌, ℕ, ◌+◌, Bool, true, false, ◌&&◌, List, [], ◌∷◌, ◌++◌, Option, Some, None, option_map, option_and_then, unwrap_or, sum_by, nat_le, slice_get, if◌then◌else◌}
 use Rattle.std.specs.Option.{option_or, option_map_or}
-use Rattle.aq_base.specs.Scripts.{rows_in, fits_first_language}
+use Rattle.aq_first_base.specs.Scripts.{rows_in, fits_first_language}
 use Rattle.aq_base.specs.declared.script.Placed.{Placed}
 use Rattle.aq_base.specs.declared.script.SessionText.{SessionText}
 use Rattle.aq_base.specs.declared.script.Script.{Script}
-use Rattle.aq_base.specs.declared.simple.SimpleStatement.{SimpleStatement}
-use Rattle.aq_base.specs.declared.simple.SimplePlaced.{SimplePlaced}
-use Rattle.aq_base.specs.declared.simple.SimpleScript.{SimpleScript}
+use Rattle.aq_first_base.specs.declared.simple.SimpleStatement.{SimpleStatement}
+use Rattle.aq_first_base.specs.declared.simple.SimplePlaced.{SimplePlaced}
+use Rattle.aq_first_base.specs.declared.simple.SimpleScript.{SimpleScript}
 pub use Rattle.aq_simple.specs.Forms.{simple_statement, simple_statements, simple_script}
 use Rattle.aq_simple.specs.Conditions.{definition_kept, run_kept}
 

@@ -4,14 +4,14 @@ ghost use Rattle.std.specs.Prelude.{◌≡◌, ◌-◌, ◌^◌, [], Some, map, 
 ghost use Rattle.std.specs.List.{list_all, list_any};
 ghost use Rattle.std.specs.Option.{option_copied};
 ghost use Rattle.aq_base.specs.Names.{same_text, is_short, is_apart_from, all_differ, primary_key_name, foreign_key_name};
-ghost use Rattle.aq_base.specs.Setup.{is_primary};
-ghost use Rattle.aq_base.specs.Scripts.{is_reference, rows_in, rows_in_session, fits_first_language};
+ghost use Rattle.aq_first_base.specs.Setup.{is_primary};
+ghost use Rattle.aq_first_base.specs.Scripts.{is_reference, rows_in, rows_in_session, fits_first_language};
 ghost use Rattle.aq_simple.specs.Conditions.{items_named, primaries_in, references_in, has_primary, items_with, constraint_kept, column_kept, statement_references, references_before, create_kept, definition_kept, setup_kept, rows_kept, run_kept, session_kept, statements_in, script_kept};
 
 use crate::names::{is_name, same_text};
-use aq_base::{
-    List, Row, SimpleColumn, SimpleConstraint, SimplePlaced, SimpleScript, SimpleSession,
-    SimpleStatement, TextVal,
+use aq_base::{List, Row, TextVal};
+use aq_first_base::{
+    SimpleColumn, SimpleConstraint, SimplePlaced, SimpleScript, SimpleSession, SimpleStatement,
 };
 
 /// The columns of the first table of a name that statements create.

@@ -4,7 +4,8 @@ ghost use Rattle.aq_simple.specs.Forms.{simple_constant, simple_expr, simple_giv
 ghost use Rattle.aq_simple.specs.Steps.{Gives};
 
 use crate::fault::FormFault;
-use aq_base::{Copies, Delete, Expr, Given, Insert, List, Row, SimpleStatement, Source, Value};
+use aq_base::{Copies, Delete, Expr, Given, Insert, List, Row, Source, Value};
+use aq_first_base::SimpleStatement;
 use std::alloc::Global;
 
 fn simple_constant(value: &Value) -> Result<Value, FormFault>

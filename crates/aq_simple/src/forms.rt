@@ -6,10 +6,8 @@ ghost use Rattle.aq_simple.specs.Steps.{Gives};
 use crate::data::{simple_delete, simple_insert};
 use crate::fault::FormFault;
 use crate::table::simple_create;
-use aq_base::{
-    Copies, Isolation, List, Placed, Script, SessionText, SimplePlaced, SimpleScript,
-    SimpleSession, SimpleStatement, Statement,
-};
+use aq_base::{Copies, Isolation, List, Placed, Script, SessionText, Statement};
+use aq_first_base::{SimplePlaced, SimpleScript, SimpleSession, SimpleStatement};
 use std::alloc::Global;
 
 fn simple_begin(isolation: Isolation) -> Result<SimpleStatement, FormFault>

@@ -9,7 +9,8 @@ ghost use Rattle.aq_simple.specs.Steps.{SaysLine, IfNotBuilt};
 use crate::conditions::{definition_kept, rows_in, run_kept};
 use crate::fault::{FormFault, SimpleFault};
 use crate::forms::simple_statement;
-use aq_base::{List, Placed, Script, SessionText, SimplePlaced};
+use aq_base::{List, Placed, Script, SessionText};
+use aq_first_base::SimplePlaced;
 use std::alloc::Global;
 
 /// The rows of values that a session may insert.

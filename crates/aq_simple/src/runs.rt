@@ -2,7 +2,7 @@
 
 ghost use Rattle.std.specs.Prelude.{◌≡◌, None, IfOk, IfErr};
 ghost use Rattle.aq_base.specs.declared.script.Script.{Script};
-ghost use Rattle.aq_base.specs.declared.simple.SimpleScript.{SimpleScript};
+ghost use Rattle.aq_first_base.specs.declared.simple.SimpleScript.{SimpleScript};
 ghost use Rattle.aq_simple.specs.Simple.{Runs, running, statement_line, not_built_line};
 ghost use Rattle.aq_simple.specs.Steps.{Gives, IfNotBuilt};
 
@@ -10,7 +10,8 @@ use crate::conditions::fits_first_language;
 use crate::fault::{FormFault, SimpleFault};
 use crate::forms;
 use crate::lines::refusal;
-use aq_base::{Script, SimpleScript};
+use aq_base::Script;
+use aq_first_base::SimpleScript;
 use std::alloc::Global;
 
 fn running(alloc: Global, script: &Script) -> Result<SimpleScript, FormFault>

@@ -6,9 +6,9 @@ ghost use Rattle.aq_simple.specs.Steps.{Gives};
 
 use crate::fault::FormFault;
 use aq_base::{
-    Action, ColumnConstraint, Copies, CreateTable, Kind, List, Match, Reference, SimpleColumn,
-    SimpleConstraint, SimpleStatement, TableItem, TextVal,
+    Action, ColumnConstraint, Copies, CreateTable, Kind, List, Match, Reference, TableItem, TextVal,
 };
+use aq_first_base::{SimpleColumn, SimpleConstraint, SimpleStatement};
 use std::alloc::Global;
 
 fn is_integer(kind: Kind) -> bool

@@ -1,11 +1,11 @@
 //! Statements bound over a catalog of two tables.
 
 use aq_base::{
-    Assignment, Boxed, ColNo, ColumnConstraint, Columns, ConNo, ConstraintMode, Constraints,
-    CreateTable, Delete, Expr, Given, Insert, Kind, List, Select, SetConstraints, Source,
-    Statement, TableItem, TextVal, Update, Value,
+    Assignment, Bound, BoundColumns, BoundConstraints, BoundExpr, BoundGiven, BoundSource, Boxed,
+    ColNo, ColumnConstraint, Columns, ConNo, ConstraintMode, Constraints, CreateTable, Delete,
+    Expr, Given, Insert, Kind, List, Select, SetConstraints, Source, Statement, TableItem, TextVal,
+    Update, Value,
 };
-use aq_bound::{Bound, BoundColumns, BoundConstraints, BoundExpr, BoundGiven, BoundSource};
 use aq_catalog::{CatFault, Catalog};
 use std::alloc::{AllocError, Global};
 use std::test::*;

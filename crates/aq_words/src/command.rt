@@ -7,7 +7,7 @@ use aq_base::{List, NoMemory, TextVal};
 use std::alloc::Global;
 
 /// What the words after the program's name ask for.
-#[derive(Clone, Copy, Debug, PartialEq, Eq)]
+#[derive(Clone, Copy, PartialEq, Eq)]
 pub enum Command {
     /// `run`, `run --trace`: a thread for each session.
     Run { trace: bool },

@@ -2,9 +2,9 @@
 #![tactic(auto)]
 
 /// A session's number in script order, from 0.
-#[derive(Clone, Copy, Debug, PartialEq, Eq, PartialOrd, Ord, Hash)]
+#[derive(Clone, Copy, PartialEq, Eq, PartialOrd, Ord, Hash)]
 pub struct SessNo(pub u8);
 
 /// A set of sessions: bit n stands for session n.
-#[derive(Clone, Copy, Debug, PartialEq, Eq)]
+#[derive(Clone, Copy, PartialEq, Eq)]
 pub struct SessSet(pub u16);

@@ -3,7 +3,7 @@ use Rattle.std.proofs.Common.{◌≡◌, ℕ, List, [], Result, Ok, Err, sym, ap
 use Rattle.std.specs.Prelude.{IfErr, IfOk}
 use Rattle.aq_base.specs.declared.fault.SqlFault.{SqlFault}
 use Rattle.aq_base.specs.declared.script.Script.{Script}
-use Rattle.aq_base.specs.declared.simple.SimpleScript.{SimpleScript}
+use Rattle.aq_first_base.specs.declared.simple.SimpleScript.{SimpleScript}
 use Rattle.aq_setup.specs.Setup.{RefusedSetup, setup}
 use Rattle.aq_script.specs.Reading.{Reads, HasNoReading, IsRefusedLine, IfRefused}
 use Rattle.aq_script.specs.declared.fault.ScriptFault.{ScriptFault}

@@ -3,19 +3,19 @@ use Rattle.std.proofs.Common.{◌≡◌, ◌≤◌, ◌<◌, ◌^◌, ◌+◌, B
 use Rattle.std.specs.List.{list_all}
 use Rattle.std.proofs.lemmas.Bool.Decides.{nat_tests}
 use Rattle.aq_base.specs.Names.{Text, is_name, all_differ}
-use Rattle.aq_base.specs.Catalogs.{Catalog}
-use Rattle.aq_base.specs.Setup.{program_of, catalog_of}
-use Rattle.aq_base.specs.Scripts.{fits_first_language, session_fits}
-use Rattle.aq_base.specs.declared.simple.SimpleScript.{SimpleScript}
-use Rattle.aq_base.specs.declared.simple.SimpleSession.{SimpleSession}
-use Rattle.aq_run.specs.States.{opening}
-use Rattle.aq_run.specs.Runs.{Schedule, run, IsSchedule, IsComplete}
-use Rattle.aq_run.specs.Texts.{text}
-use Rattle.aq_run.proofs.Running.{CanRunFrom-by_default}
-use Rattle.aq_run.specs.Told.{TellsSchedule, CanBeTold}
-use Rattle.aq_run.proofs.Told.{told, schedule_is_told, IsSchedule-told}
-use Rattle.aq_laws.proofs.Committed.{committed_databases_stand}
-use Rattle.aq_journal.specs.Journals.{Journal, Finishes}
+use Rattle.aq_first_base.specs.Catalogs.{Catalog}
+use Rattle.aq_first_base.specs.Setup.{program_of, catalog_of}
+use Rattle.aq_first_base.specs.Scripts.{fits_first_language, session_fits}
+use Rattle.aq_first_base.specs.declared.simple.SimpleScript.{SimpleScript}
+use Rattle.aq_first_base.specs.declared.simple.SimpleSession.{SimpleSession}
+use Rattle.aq_first_run.specs.States.{opening}
+use Rattle.aq_first_run.specs.Runs.{Schedule, run, IsSchedule, IsComplete}
+use Rattle.aq_first_run.specs.Texts.{text}
+use Rattle.aq_first_run.proofs.Running.{CanRunFrom-by_default}
+use Rattle.aq_first_run.specs.Told.{TellsSchedule, CanBeTold}
+use Rattle.aq_first_run.proofs.Told.{told, schedule_is_told, IsSchedule-told}
+use Rattle.aq_first_laws.proofs.Committed.{committed_databases_stand}
+use Rattle.aq_first_journal.specs.Journals.{Journal, Finishes}
 use Rattle.aqueue.specs.Answers.{IsTextOf}
 
 both_left : (a b : Bool) → (a && b) ≡ true → a ≡ true

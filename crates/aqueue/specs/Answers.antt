@@ -4,10 +4,10 @@ use Rattle.std.specs.Fmt.{decimal}
 use Rattle.std.specs.List.{list_any}
 use Rattle.std.specs.Io.KnownBytes.{Appends}
 use Rattle.aq_base.specs.Names.{Text}
-use Rattle.aq_base.specs.Setup.{program_of}
+use Rattle.aq_first_base.specs.Setup.{program_of}
 use Rattle.aq_base.specs.declared.fault.SqlFault.{SqlFault}
 use Rattle.aq_base.specs.declared.script.Script.{Script}
-use Rattle.aq_base.specs.declared.simple.SimpleScript.{SimpleScript}
+use Rattle.aq_first_base.specs.declared.simple.SimpleScript.{SimpleScript}
 use Rattle.aq_setup.specs.Catalogs.{Catalog}
 use Rattle.aq_setup.specs.Setup.{RefusedSetup, setup}
 use Rattle.aq_texts.specs.Canon.{canon}
@@ -18,11 +18,11 @@ use Rattle.aqueue.specs.declared.task.Task.{Task}
 use Rattle.aqueue.specs.declared.task.Task.TheVariants.{Replay, Check}
 use Rattle.aq_script.specs.Reading.{Reads, IsRefusedLine}
 use Rattle.aq_simple.specs.Simple.{Runs, not_built_line}
-use Rattle.aq_run.specs.Runs.{Schedule, run, IsComplete, IsDefaultSchedule}
-use Rattle.aq_run.specs.Texts.{text}
+use Rattle.aq_first_run.specs.Runs.{Schedule, run, IsComplete, IsDefaultSchedule}
+use Rattle.aq_first_run.specs.Texts.{text}
 use Rattle.aq_texts.specs.Rows.{line}
-use Rattle.aq_run.specs.Told.{TellsSchedule, CanBeTold}
-use Rattle.aq_laws.specs.Committed.{DatabasesStand}
+use Rattle.aq_first_run.specs.Told.{TellsSchedule, CanBeTold}
+use Rattle.aq_first_laws.specs.Committed.{DatabasesStand}
 
 -- ---- the words, and the lines that are no text
 

@@ -29,7 +29,7 @@ const USAGE: &[u8] =
 const TOO_LONG: &[u8] = b"aqueue: script longer than 16777216 bytes\n";
 
 // What the words and the input come to, before anything is written.
-#[derive(Debug, Drop)]
+#[derive(Drop)]
 enum Outcome {
     // The status, with what is to be written.
     Writes { status: u8, text: List<u8> },

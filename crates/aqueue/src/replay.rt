@@ -1,8 +1,8 @@
 //! Replaying a script by the default schedule.
 
 ghost use Rattle.std.specs.Prelude.{◌≡◌, true, IfOk, IfErr};
-ghost use Rattle.aq_base.specs.Scripts.{fits_first_language};
-ghost use Rattle.aq_base.specs.declared.simple.SimpleScript.{SimpleScript};
+ghost use Rattle.aq_first_base.specs.Scripts.{fits_first_language};
+ghost use Rattle.aq_first_base.specs.declared.simple.SimpleScript.{SimpleScript};
 ghost use Rattle.aq_simple.specs.Simple.{Runs, not_built_line};
 ghost use Rattle.aqueue.specs.declared.task.Task.TheVariants.{Replay};
 ghost use Rattle.aqueue.specs.Answers.{RunsAs, IsReplay, IsTextOf, IsRefusal, CannotBeDone, not_built};
@@ -10,9 +10,10 @@ ghost use Rattle.aqueue.specs.Faults.{IfScript};
 
 use crate::fault::RunFault;
 use crate::setup::set_up;
-use aq_base::{Code, List, NoMemory, Script, SimpleScript, SqlFault, TextVal};
-use aq_journal::Shared;
-use aq_machine::Machine;
+use aq_base::{Code, List, NoMemory, Script, SqlFault, TextVal};
+use aq_first_base::SimpleScript;
+use aq_first_journal::Shared;
+use aq_first_machine::Machine;
 use aq_script::one_reading;
 use aq_simple::{SimpleFault, simple_script};
 use std::alloc::Global;

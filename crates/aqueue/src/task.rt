@@ -1,5 +1,5 @@
 /// What the words may ask for today.
-#[derive(Clone, Copy, Debug, PartialEq, Eq)]
+#[derive(Clone, Copy, PartialEq, Eq)]
 pub(crate) enum Task {
     Replay,
     Check,

@@ -1,5 +1,5 @@
 use Rattle.std.proofs.Common.{ap, ◌∙◌, List, map, option_map}
-use Rattle.aq_bound.specs.declared.catalog.Column.{Column}
+use Rattle.aq_base.specs.declared.catalog.Column.{Column}
 use Rattle.aq_setup.specs.Catalogs.{table_columns}
 use Rattle.aq_setup.specs.Scopes.{Setting, number_of_column, number_of_table}
 use Rattle.aq_catalog.proofs.BoundBodies.{same_insert}

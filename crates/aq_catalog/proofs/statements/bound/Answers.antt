@@ -1,5 +1,5 @@
 use Rattle.std.proofs.Common.{ap, sym, ◌∙◌}
-use Rattle.aq_bound.specs.declared.statement.Bound.TheVariants as bound_statements
+use Rattle.aq_base.specs.declared.bound_statement.Bound.TheVariants as bound_statements
 use Rattle.aq_setup.specs.Scopes.{Setting}
 use Rattle.aq_setup.specs.Binding.{bound_delete, bound_select, bound}
 use Rattle.aq_catalog.proofs.statements.bound.Goals as goal

@@ -1,6 +1,6 @@
 use Rattle.std.proofs.Common.{◌≡◌, ◌-◌, ◌^◌, take, min}
 use Rattle.std.specs.List.{sum_by}
-use Rattle.aq_base.specs.Scripts.{rows_in_session}
+use Rattle.aq_first_base.specs.Scripts.{rows_in_session}
 use Rattle.aq_simple.proofs.conditions.rows_in_sessions.Given as goal
 
 abbrev pub invariant-loop-session : goal.invariant-loop-session

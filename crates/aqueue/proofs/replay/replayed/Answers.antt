@@ -1,7 +1,7 @@
 use Rattle.std.proofs.Common.{◌≡◌, [], ap, subst, ◌∙◌}
-use Rattle.aq_run.specs.Texts.{text}
-use Rattle.aq_base.specs.Setup.{program_of}
-use Rattle.aq_journal.specs.Journals.{Journal, Finishes}
+use Rattle.aq_first_run.specs.Texts.{text}
+use Rattle.aq_first_base.specs.Setup.{program_of}
+use Rattle.aq_first_journal.specs.Journals.{Journal, Finishes}
 use Rattle.aqueue.specs.Answers.{IsTextOf}
 use Rattle.aqueue.proofs.Texts.{opened, finished_text}
 use Rattle.aqueue.proofs.Answering.{IfOk-follows}

@@ -1,0 +1,5 @@
+use Rattle.aq_first_laws.proofs.Default.{default_schedule_exists}
+use Rattle.aq_first_laws.proofs.default_schedule_exists.Goals as goal
+
+pub returns : goal.returns
+returns c = default_schedule_exists

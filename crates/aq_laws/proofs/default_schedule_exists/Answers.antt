@@ -1,5 +1,0 @@
-use Rattle.aq_laws.proofs.Default.{default_schedule_exists}
-use Rattle.aq_laws.proofs.default_schedule_exists.Goals as goal
-
-pub returns : goal.returns
-returns c = default_schedule_exists

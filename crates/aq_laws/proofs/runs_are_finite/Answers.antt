@@ -1,5 +1,0 @@
-use Rattle.aq_laws.proofs.Finite.{runs_are_finite}
-use Rattle.aq_laws.proofs.runs_are_finite.Goals as goal
-
-pub returns : goal.returns
-returns c = runs_are_finite

@@ -1,7 +1,0 @@
-use Rattle.std.proofs.Common.{◌≡◌, drop}
-use Rattle.std.specs.Prelude.{find}
-use Rattle.aq_outcomes.specs.Rows.{holds_null}
-use Rattle.aq_machine.proofs.checks.null_col.Given as goal
-
-abbrev pub invariant-cols : goal.invariant-cols
-invariant-cols l = find (holds_null l.row) (drop l.col-index l.cols) ≡ find (holds_null l.fn.row) l.fn.cols

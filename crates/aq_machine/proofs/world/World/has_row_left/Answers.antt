@@ -1,8 +1,0 @@
-use Rattle.std.proofs.Common.{map, rules}
-use Rattle.aq_machine.specs.Versions.{write_entry}
-use Rattle.aq_machine.proofs.Histories.{last_database-all, list_any-left}
-use Rattle.aq_machine.proofs.world.World.has_row_left.Goals as goal
-
-pub returns : goal.returns
-returns c =
-    rw (← c.self.view_is, last_database-all c.self.inside.commits c.self.inside.versions.items c.self.invariant, ← list_any-left (map write_entry c.args.writes.now) c.args.table c.args.cols.now c.args.key.now c.self.inside.versions.items) (search rules)
