@@ -5,8 +5,11 @@ use aq_base::{
     CreateTable, Delete, Expr, Given, Insert, Kind, List, Select, SetConstraints, Source,
     Statement, TableItem, TextVal, Update, Value,
 };
+use aq_binder::Bind;
 use aq_bound::{Bound, BoundColumns, BoundConstraints, BoundExpr, BoundGiven, BoundSource};
-use aq_catalog::{CatFault, Catalog};
+use aq_catalog::Catalog;
+use aq_define::Define;
+use aq_refusals::CatFault;
 use std::alloc::{AllocError, Global};
 use std::test::*;
 
