@@ -5,7 +5,7 @@ use Rattle.std.specs.Cmp.Lexicographic.{same_text as texts_same}
 use Rattle.std.proofs.lemmas.List.{append-nil, length-set, take_at, length_push}
 use Rattle.aq_base.specs.Names.{Text, same_text}
 use Rattle.aq_base.specs.declared.catalog.Table.{Table}
-use Rattle.aq_setup.specs.Catalogs.{places}
+use Rattle.aq_catalog.specs.Catalogs.{places}
 use Rattle.aq_catalog.specs.Marks.{with_columns_at}
 use Rattle.aq_catalog.specs.Indexed.{places_under, front, IsIndexed}
 use Rattle.aq_catalog.proofs.Places.{places_push, places_set}

@@ -13,7 +13,7 @@ use Rattle.aq_base.specs.declared.catalog.Table.{Table}
 use Rattle.aq_base.specs.declared.catalog.UniqueKey.{UniqueKey}
 use Rattle.aq_base.specs.declared.catalog.ForeignKey.{ForeignKey}
 use Rattle.aq_base.specs.declared.catalog.Trigger.{Trigger}
-use Rattle.aq_setup.specs.Catalogs.{places, same_op, fires_on, stands_before, in_its_place, in_name_order}
+use Rattle.aq_catalog.specs.Catalogs.{places, same_op, fires_on, stands_before, in_its_place, in_name_order}
 use Rattle.aq_catalog.specs.Listed.{Listed, listed_at, fired_by, numbers_by, listed_of, IsKept, with_key_listed, goes_before, place_among, with_number, with_trigger_listed, below, listed_below}
 use Rattle.aq_catalog.proofs.Places.{enumerated_more, places_push}
 

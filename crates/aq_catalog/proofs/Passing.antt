@@ -6,7 +6,7 @@ use Rattle.std.proofs.lemmas.Bool.Decides.{nat_tests}
 use Rattle.std.proofs.lemmas.List.{length_push}
 use Rattle.aq_base.proofs.Lists.{slice_get-behind}
 use Rattle.aq_base.specs.Names.{Text, same_text}
-use Rattle.aq_setup.specs.Catalogs.{places, is_number_in}
+use Rattle.aq_catalog.specs.Catalogs.{places, is_number_in}
 use Rattle.aq_catalog.specs.Indexed.{passes}
 use Rattle.aq_catalog.proofs.FirstFound.{any_of_images}
 

@@ -3,7 +3,7 @@ use Rattle.std.proofs.Common.{◌≡◌, ℕ, ◌+◌, Bool, true, false, cond, 
 use Rattle.std.specs.List.{enumerate_from, flat_map}
 use Rattle.std.proofs.lemmas.List.{length_push}
 use Rattle.std.proofs.lemmas.Option.{same_Some, none-some}
-use Rattle.aq_setup.specs.Catalogs.{places}
+use Rattle.aq_catalog.specs.Catalogs.{places}
 use Rattle.aq_base.proofs.Lists.{slice_get-behind}
 
 -- an element that passes stands at a place

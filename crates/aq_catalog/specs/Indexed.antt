@@ -2,7 +2,7 @@
 use Rattle.std.specs.Prelude.{ℕ, ◌≡◌, ◌-◌, Bool, false, List, [], Option, Some, None, length, take, unwrap_or}
 use Rattle.std.specs.Map.{lookup}
 use Rattle.aq_base.specs.Names.{Text, same_text}
-use Rattle.aq_setup.specs.Catalogs.{places}
+use Rattle.aq_catalog.specs.Catalogs.{places}
 
 abbrev pub places_under : List (Text × List ℕ) → Text → List ℕ
 places_under entries name = unwrap_or (lookup (same_text name) entries) []

@@ -8,7 +8,7 @@ use Rattle.aq_base.specs.declared.catalog.Table.{Table}
 use Rattle.aq_base.specs.declared.catalog.UniqueKey.{UniqueKey}
 use Rattle.aq_base.specs.declared.catalog.ForeignKey.{ForeignKey}
 use Rattle.aq_base.specs.declared.catalog.Trigger.{Trigger}
-use Rattle.aq_setup.specs.Catalogs.{places, same_op, fires_on, stands_before, in_name_order}
+use Rattle.aq_catalog.specs.Catalogs.{places, same_op, fires_on, stands_before, in_name_order}
 
 pub record Listed : Type 0 where
   pub keys : List ℕ

@@ -1,7 +1,7 @@
 -- What a catalog had at a mark, and a change of a table.
 use Rattle.std.specs.Prelude.{ℕ, List, Some, None, length, take, slice_get, slice_set}
 use Rattle.aq_base.specs.declared.catalog.Table.{Table}
-use Rattle.aq_setup.specs.Catalogs.{Catalog}
+use Rattle.aq_catalog.specs.Catalogs.{Catalog}
 use Rattle.aq_catalog.specs.declared.mark.Mark.{Mark}
 
 abbrev pub mark_of : Catalog → Mark

@@ -4,11 +4,8 @@ use Rattle.std.specs.List.{list_any}
 use Rattle.std.specs.Fmt.{decimal}
 use Rattle.aq_base.specs.Names.{Text, same_text}
 use Rattle.aq_base.specs.declared.catalog.Constraint.{Constraint}
+use Rattle.aq_catalog.specs.Catalogs.{names_in}
 use Rattle.aq_catalog.specs.Indexed.{passes}
-
--- the names of a table's constraints
-abbrev pub names_in : List Constraint → ℕ → List Text
-names_in constraints table = map (λ con. con.name) (filter (λ con. con.table == table) constraints)
 
 -- a name is taken with each number behind it that is less than another one, counted from 1
 abbrev pub AreTaken : List Text → Text → ℕ → Type 0

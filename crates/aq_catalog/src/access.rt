@@ -1,12 +1,13 @@
 //! What is in a catalog, by its numbers.
 
 ghost use Rattle.std.specs.Prelude.{◌≡◌, ◌<◌, Some, length, option_map, slice_get};
-ghost use Rattle.aq_setup.specs.Catalogs as catalogs;
+ghost use Rattle.aq_catalog.specs.Catalogs as catalogs;
 
 use crate::catalog::Catalog;
 use crate::of_tables;
 use aq_base::{
-    ConNo, Decl, FkNo, ForeignKey, KeyNo, Op, TabNo, Table, TextVal, TrigNo, Trigger, UniqueKey,
+    ConNo, Constraint, Decl, FkNo, ForeignKey, KeyNo, Op, TabNo, Table, TextVal, TrigNo, Trigger,
+    UniqueKey,
 };
 
 impl Catalog {
@@ -32,6 +33,34 @@ impl Catalog {
         ensures { result ≡ length self.now.fks }
     {
         self.fks.len() as u16
+    }
+
+    /// All tables, in the order in which they were made.
+    pub fn all_tables(&self) -> &[Table]
+        ensures { result.now ≡ self.now.tables }
+    {
+        self.tables.as_slice()
+    }
+
+    /// All keys, in the order in which they were made.
+    pub fn all_keys(&self) -> &[UniqueKey]
+        ensures { result.now ≡ self.now.keys }
+    {
+        self.keys.as_slice()
+    }
+
+    /// All constraints, in the order in which they were made.
+    pub fn all_constraints(&self) -> &[Constraint]
+        ensures { result.now ≡ self.now.constraints }
+    {
+        self.constraints.as_slice()
+    }
+
+    /// All triggers, in the order in which they were made.
+    pub fn all_triggers(&self) -> &[Trigger]
+        ensures { result.now ≡ self.now.triggers }
+    {
+        self.triggers.as_slice()
     }
 
     /// A table.

@@ -2,13 +2,12 @@
 
 ghost use Rattle.std.specs.Prelude.{◌≡◌, ◌<◌, ◌≤◌, ◌^◌, IfOk, OnOk, OnErr, slice_get};
 ghost use Rattle.std.specs.Option.{option_copied};
-ghost use Rattle.aq_setup.specs.Catalogs as catalogs;
-ghost use Rattle.aq_setup.specs.Binding.{is_fixed as fixed};
+ghost use Rattle.aq_catalog.specs.Catalogs as catalogs;
 
 use crate::name_index::NameIndex;
 use crate::of_table::OfTable;
 use aq_base::{
-    Column, ConNo, Constraint, ForeignKey, Function, KeyNo, List, Same, Table, TextVal, Trigger,
+    Column, ConNo, Constraint, ForeignKey, Function, KeyNo, List, Table, TextVal, Trigger,
     UniqueKey,
 };
 use std::alloc::{AllocError, Global};
@@ -34,7 +33,7 @@ pub struct Catalog {
 }
 
 impl Model for Catalog {
-    ghost use Rattle.aq_setup.specs.Catalogs.{Catalog as Made};
+    ghost use Rattle.aq_catalog.specs.Catalogs.{Catalog as Made};
     ghost use Rattle.std.specs.Coded.{codes};
     ghost use Rattle.aq_base.specs.contracts.body.BodyStatement as statement;
     ghost use Rattle.aq_base.specs.contracts.bound_expr.BoundExpr as expr;
@@ -75,7 +74,7 @@ impl Catalog {
     }
 
     /// The place of a table.
-    pub(crate) fn table_at(&self, name: &TextVal) -> Option<usize>
+    pub fn table_at(&self, name: &TextVal) -> Option<usize>
         ensures { result ≡ catalogs.table_number self.now name.now }
     {
         match self.table_names.first(name) {
@@ -86,7 +85,7 @@ impl Catalog {
 
     /// The columns of a table; none where there is no such table.
     #[tactic(auto, using(crate::proofs::Places::found_at, crate::proofs::Places::found_nowhere))]
-    pub(crate) fn columns_of(&self, name: &TextVal) -> &[Column]
+    pub fn columns_of(&self, name: &TextVal) -> &[Column]
         ensures { result.now ≡ catalogs.table_columns self.now name.now }
     {
         match self.table_at(name) {
@@ -96,7 +95,7 @@ impl Catalog {
     }
 
     /// The columns of the table with a number; none where there is no such table.
-    pub(crate) fn columns_at(&self, table: usize) -> &[Column]
+    pub fn columns_at(&self, table: usize) -> &[Column]
         ensures { result.now ≡ catalogs.columns_at self.now table }
     {
         match self.tables.get(table) {
@@ -106,7 +105,7 @@ impl Catalog {
     }
 
     /// The function of a name.
-    pub(crate) fn function(&self, name: &TextVal) -> Option<&Function>
+    pub fn function(&self, name: &TextVal) -> Option<&Function>
         ensures { option_copied result ≡ catalogs.function_named self.now name.now }
     {
         match self.function_names.first(name) {
@@ -121,27 +120,10 @@ impl Catalog {
     {
         numbered(alloc, self.constraint_names.all(name))
     }
-
-    /// The triggers in the order in which they were made.
-    pub(crate) fn all_triggers(&self) -> &[Trigger]
-        ensures { result.now ≡ self.now.triggers }
-    {
-        self.triggers.as_slice()
-    }
-
-    /// Whether a constraint can't be deferred.
-    pub(crate) fn is_fixed(&self, con: ConNo) -> bool
-        ensures { result ≡ fixed self.now con }
-    {
-        match self.constraints.get(usize::from(con.get())) {
-            None => false,
-            Some(found) => !found.decl.deferrable,
-        }
-    }
 }
 
-/// A place as a number, where there are as many numbers.
-pub(crate) fn number(place: usize) -> Result<u16, AllocError>
+/// A number in 16 bits. The error is that it has no room there.
+pub fn in_16_bits(place: usize) -> Result<u16, AllocError>
     ensures ok { IfOk result (λ n. n ≡ place) }
     ensures err { OnErr result (2 ^ 16 ≤ place) }
 {

@@ -4,7 +4,7 @@ ghost use Rattle.std.specs.Prelude.{◌≡◌, ◌++◌, [], ◌∷◌, OnOk, On
 ghost use Rattle.aq_catalog.specs.Indexed.{IsIndexed};
 ghost use Rattle.aq_catalog.specs.Marks.{mark_of, shortened, with_columns_at, with_columns_not_null};
 
-use crate::catalog::{Catalog, number, one_more};
+use crate::catalog::{Catalog, in_16_bits, one_more};
 use crate::mark::Mark;
 use crate::name_index::NameIndex;
 use crate::of_tables;
@@ -15,7 +15,7 @@ use std::alloc::AllocError;
 
 impl Catalog {
     /// How much there is.
-    pub(crate) fn mark(&self) -> Mark
+    pub fn mark(&self) -> Mark
         ensures { result ≡ mark_of self.now }
     {
         Mark {
@@ -29,12 +29,13 @@ impl Catalog {
         }
     }
 
-    pub(crate) fn push_table(&mut self, table: Table) -> Result<(), AllocError>
+    /// One table more. Where memory runs out, or there are 65,535, all is as it was.
+    pub fn push_table(&mut self, table: Table) -> Result<(), AllocError>
         ensures ok { OnOk result (self.new ≡ record self.old { tables = self.old.tables ++ table ∷ [] }) }
         ensures err { OnErr result (self.new ≡ self.old) }
     {
         one_more(self.tables.len())?;
-        let place = number(self.tables.len())?;
+        let place = in_16_bits(self.tables.len())?;
         let alloc = *self.tables.allocator();
         self.tables.reserve(1)?;
         self.table_names.push(alloc, &table.name, place)?;
@@ -42,11 +43,12 @@ impl Catalog {
         Ok(())
     }
 
-    pub(crate) fn push_key(&mut self, key: UniqueKey) -> Result<(), AllocError>
+    /// One key more. Where memory runs out, or there is no number left, all is as it was.
+    pub fn push_key(&mut self, key: UniqueKey) -> Result<(), AllocError>
         ensures ok { OnOk result (self.new ≡ record self.old { keys = self.old.keys ++ key ∷ [] }) }
         ensures err { OnErr result (self.new ≡ self.old) }
     {
-        let place = KeyNo::new(number(self.keys.len())?);
+        let place = KeyNo::new(in_16_bits(self.keys.len())?);
         let table = usize::from(key.table.get());
         self.keys.reserve(1)?;
         of_tables::add_key(&mut self.by_table, table, place)?;
@@ -54,7 +56,8 @@ impl Catalog {
         Ok(())
     }
 
-    pub(crate) fn push_primary(&mut self, primary: KeyNo) -> Result<(), AllocError>
+    /// The number of a key that is a primary key. Where memory runs out all is as it was.
+    pub fn push_primary(&mut self, primary: KeyNo) -> Result<(), AllocError>
         ensures ok { OnOk result (self.new ≡ record self.old { primaries = self.old.primaries ++ primary ∷ [] }) }
         ensures err { OnErr result (self.new ≡ self.old) }
     {
@@ -62,7 +65,8 @@ impl Catalog {
         Ok(())
     }
 
-    pub(crate) fn push_fk(&mut self, fk: ForeignKey) -> Result<(), AllocError>
+    /// One foreign key more. Where memory runs out, or there are 65,535, all is as it was.
+    pub fn push_fk(&mut self, fk: ForeignKey) -> Result<(), AllocError>
         ensures ok { OnOk result (self.new ≡ record self.old { fks = self.old.fks ++ fk ∷ [] }) }
         ensures err { OnErr result (self.new ≡ self.old) }
     {
@@ -71,11 +75,12 @@ impl Catalog {
         Ok(())
     }
 
-    pub(crate) fn push_constraint(&mut self, constraint: Constraint) -> Result<(), AllocError>
+    /// One constraint more. Where memory runs out, or there is no number left, all is as it was.
+    pub fn push_constraint(&mut self, constraint: Constraint) -> Result<(), AllocError>
         ensures ok { OnOk result (self.new ≡ record self.old { constraints = self.old.constraints ++ constraint ∷ [] }) }
         ensures err { OnErr result (self.new ≡ self.old) }
     {
-        let place = number(self.constraints.len())?;
+        let place = in_16_bits(self.constraints.len())?;
         let alloc = *self.constraints.allocator();
         self.constraints.reserve(1)?;
         self.next_numbers.reserve(1)?;
@@ -85,11 +90,12 @@ impl Catalog {
         Ok(())
     }
 
-    pub(crate) fn push_function(&mut self, function: Function) -> Result<(), AllocError>
+    /// One function more. Where memory runs out, or there is no number left, all is as it was.
+    pub fn push_function(&mut self, function: Function) -> Result<(), AllocError>
         ensures ok { OnOk result (self.new ≡ record self.old { functions = self.old.functions ++ function ∷ [] }) }
         ensures err { OnErr result (self.new ≡ self.old) }
     {
-        let place = number(self.functions.len())?;
+        let place = in_16_bits(self.functions.len())?;
         let alloc = *self.functions.allocator();
         self.functions.reserve(1)?;
         self.function_names.push(alloc, &function.name, place)?;
@@ -97,11 +103,12 @@ impl Catalog {
         Ok(())
     }
 
-    pub(crate) fn push_trigger(&mut self, trigger: Trigger) -> Result<(), AllocError>
+    /// One trigger more. Where memory runs out, or there is no number left, all is as it was.
+    pub fn push_trigger(&mut self, trigger: Trigger) -> Result<(), AllocError>
         ensures ok { OnOk result (self.new ≡ record self.old { triggers = self.old.triggers ++ trigger ∷ [] }) }
         ensures err { OnErr result (self.new ≡ self.old) }
     {
-        let place = TrigNo::new(number(self.triggers.len())?);
+        let place = TrigNo::new(in_16_bits(self.triggers.len())?);
         let table = usize::from(trigger.table.get());
         self.triggers.reserve(1)?;
         of_tables::add_trigger(
@@ -116,7 +123,7 @@ impl Catalog {
     }
 
     /// Takes away what was added behind a mark. It takes no memory.
-    pub(crate) fn back_to(&mut self, mark: &Mark)
+    pub fn back_to(&mut self, mark: &Mark)
         ensures { self.new ≡ shortened mark.now self.old }
     {
         shorten_tables(&mut self.tables, &mut self.table_names, mark.tables);
@@ -139,7 +146,7 @@ impl Catalog {
     }
 
     /// Puts other columns in place of those of a table that hold no null. It takes no memory.
-    pub(crate) fn set_not_null(&mut self, table: usize, cols: List<ColNo>)
+    pub fn set_not_null(&mut self, table: usize, cols: List<ColNo>)
         ensures { self.new ≡ with_columns_not_null table cols self.old }
     {
         put_columns(&mut self.tables, table, cols);

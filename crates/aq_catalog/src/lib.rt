@@ -1,38 +1,21 @@
-//! The catalog that the setup of a script makes, and statements bound with it
-//! (PostgreSQL manual, chapters "Data Definition" and "System Catalogs").
-#![tactic(auto, using(crate::proofs::Telling::first_stays, crate::proofs::Telling::memory_ran_out, crate::proofs::Telling::fault_is_told))]
+//! The catalog that the setup of a script makes, with its look-ups, and the calls that add to it and go back to a mark
+//! (PostgreSQL manual, chapter "System Catalogs").
+#![tactic(auto)]
 
 mod access;
-mod added;
-mod binding;
-mod building;
 mod catalog;
 mod changes;
-mod constraints;
-mod fault;
-mod kinds;
-mod lengths;
 mod lookups;
 mod mark;
 mod name_index;
-mod name_set;
-mod names;
 mod next_number;
 mod of_table;
 mod of_tables;
-mod old_new;
-mod references;
-mod refusals;
-mod scopes;
-mod setup;
-mod statements;
-mod steps;
-mod tables;
-mod taken;
-mod trigger_faults;
-mod triggers;
-mod wanted;
 
-pub use building::{BuildFault, build};
-pub use catalog::Catalog;
-pub use fault::CatFault;
+pub use catalog::{Catalog, in_16_bits};
+pub use lookups::{
+    column_at, copied_cols, has_primary, is_column_in, is_taken, kind_at, number_of_column,
+    number_of_table, numbers_of_columns, primary_cols,
+};
+pub use mark::Mark;
+pub use next_number::with_number;

@@ -3,64 +3,42 @@
 ghost use Rattle.std.specs.Prelude.{◌≡◌, ◌&&◌, ◌==◌, IfOk, find, map, option_map, slice_get};
 ghost use Rattle.std.specs.List.{enumerate_from, list_any};
 ghost use Rattle.std.specs.Option.{option_copied};
-ghost use Rattle.aq_base.specs.Names.{Text, same_text as same};
-ghost use Rattle.aq_setup.specs.Catalogs as catalogs;
-ghost use Rattle.aq_setup.specs.Scopes as scopes;
-ghost use Rattle.aq_setup.specs.Tables as tables;
-ghost use Rattle.aq_setup.specs.Triggers.{first_text};
+ghost use Rattle.aq_base.specs.Names.{same_text as same};
+ghost use Rattle.aq_catalog.specs.Catalogs as catalogs;
 ghost use Rattle.aq_catalog.specs.Indexed.{passes};
 
-use crate::catalog::Catalog;
-use crate::name_set::NameSet;
-use crate::names::column_at;
+use crate::catalog::{Catalog, in_16_bits};
 use aq_base::{ColNo, Column, Constraint, KeyNo, Kind, List, Same, TextVal, UniqueKey};
 use std::alloc::{AllocError, Global};
 
-/// Whether two texts are the same.
-pub(crate) fn same_text(a: &TextVal, b: &TextVal) -> bool
-    ensures { result ≡ same a.now b.now }
+/// The place of the column with a name.
+pub fn column_at(cols: &[Column], name: &TextVal) -> Option<usize>
+    ensures { result ≡ catalogs.column_number cols.now name.now }
 {
-    a.same(b)
-}
-
-/// Whether a text is in a list.
-pub(crate) fn is_in(names: &[TextVal], name: &TextVal) -> bool
-    ensures { result ≡ list_any (same name.now) names.now }
-{
-    names.iter().any(|other| same_text(name, other))
-}
-
-/// A number in 16 bits. The error is that it has no room there.
-pub(crate) fn in_16_bits(number: usize) -> Result<u16, AllocError>
-    ensures { IfOk result (λ made. made ≡ number) }
-{
-    match u16::try_from(number) {
-        Ok(small) => Ok(small),
-        Err(_) => Err(AllocError),
-    }
+    cols.iter().position(|col| col.name.same(name))
 }
 
 /// The number of a table that is there.
-pub(crate) fn number_of_table(catalog: &Catalog, name: &TextVal) -> usize
-    ensures { result ≡ scopes.number_of_table catalog.now name.now }
+pub fn number_of_table(catalog: &Catalog, name: &TextVal) -> usize
+    ensures { result ≡ catalogs.number_of_table catalog.now name.now }
 {
     catalog.table_at(name).unwrap_or(0)
 }
 
 /// The number of a column that is there.
-pub(crate) fn number_of_column(cols: &[Column], name: &TextVal) -> usize
-    ensures { result ≡ scopes.number_of_column cols.now name.now }
+pub fn number_of_column(cols: &[Column], name: &TextVal) -> usize
+    ensures { result ≡ catalogs.number_of_column cols.now name.now }
 {
     column_at(cols, name).unwrap_or(0)
 }
 
 /// The numbers of columns that are there.
-pub(crate) fn numbers_of_columns(
+pub fn numbers_of_columns(
     alloc: Global,
     cols: &[Column],
     names: &[TextVal],
 ) -> Result<List<ColNo>, AllocError>
-    ensures { IfOk result (λ made. made ≡ map (scopes.number_of_column cols.now) names.now) }
+    ensures { IfOk result (λ made. made ≡ map (catalogs.number_of_column cols.now) names.now) }
 {
     let mut made = List::new(alloc);
     for name in names {
@@ -70,14 +48,14 @@ pub(crate) fn numbers_of_columns(
 }
 
 /// The kind of the column with a number.
-pub(crate) fn kind_at(cols: &[Column], number: usize) -> Option<Kind>
+pub fn kind_at(cols: &[Column], number: usize) -> Option<Kind>
     ensures { result ≡ option_map (λ col. col.kind) (slice_get cols.now number) }
 {
     cols.get(number).map(|col| col.kind)
 }
 
 /// Whether a number is that of one of the columns.
-pub(crate) fn is_column_in(cols: &[ColNo], number: usize) -> bool
+pub fn is_column_in(cols: &[ColNo], number: usize) -> bool
     ensures { result ≡ catalogs.is_number_in cols.now number }
 {
     cols.iter().any(|col| usize::from(col.get()) == number)
@@ -105,14 +83,14 @@ fn first_primary<'a>(
 }
 
 /// The columns of a table's primary key.
-pub(crate) fn primary_cols(catalog: &Catalog, table: usize) -> Option<&List<ColNo>>
+pub fn primary_cols(catalog: &Catalog, table: usize) -> Option<&List<ColNo>>
     ensures { option_copied result ≡ catalogs.primary_cols catalog.now table }
 {
     first_primary(catalog.primaries.as_slice(), catalog.keys.as_slice(), table)
 }
 
 /// A list of columns with the same numbers. The error is want of memory.
-pub(crate) fn copied_cols(alloc: Global, cols: &[ColNo]) -> Result<List<ColNo>, AllocError>
+pub fn copied_cols(alloc: Global, cols: &[ColNo]) -> Result<List<ColNo>, AllocError>
     ensures { IfOk result (λ made. made ≡ cols.now) }
 {
     let mut made = List::new(alloc);
@@ -120,35 +98,6 @@ pub(crate) fn copied_cols(alloc: Global, cols: &[ColNo]) -> Result<List<ColNo>, 
         made.push(*col)?;
     }
     Ok(made)
-}
-
-/// Names as a set. The error is want of memory.
-fn set_of(alloc: Global, names: &[TextVal]) -> Result<NameSet, AllocError>
-    ensures { IfOk result (λ made. (q : Text) → list_any (same q) made ≡ list_any (same q) names.now) }
-{
-    let mut made = NameSet::new(alloc);
-    for name in names {
-        made.add(name)?;
-    }
-    Ok(made)
-}
-
-/// The first name that is taken or stands before. The error is want of memory.
-pub(crate) fn first_repeat<'a>(
-    alloc: Global,
-    taken: &[TextVal],
-    names: &'a [TextVal],
-) -> Result<Option<&'a TextVal>, AllocError>
-    ensures { IfOk result (λ found. option_copied found ≡ first_text (scopes.repeats_behind taken.now names.now)) }
-{
-    let mut seen = set_of(alloc, taken)?;
-    for name in names {
-        if seen.has(name) {
-            return Ok(Some(name));
-        }
-        seen.add(name)?;
-    }
-    Ok(None)
 }
 
 fn is_of(constraint: &Constraint, table: usize) -> bool
@@ -189,8 +138,8 @@ impl Catalog {
 }
 
 /// Whether a constraint of the table has the name.
-pub(crate) fn is_taken(catalog: &Catalog, table: Option<usize>, name: &TextVal) -> bool
-    ensures { result ≡ list_any (same name.now) (tables.names_taken catalog.now table) }
+pub fn is_taken(catalog: &Catalog, table: Option<usize>, name: &TextVal) -> bool
+    ensures { result ≡ list_any (same name.now) (catalogs.names_taken catalog.now table) }
 {
     match table {
         None => false,
@@ -217,8 +166,8 @@ fn has_key_of(keys: &[UniqueKey], numbers: &[KeyNo], table: usize) -> bool
 }
 
 /// Whether there is a table with a primary key under a number.
-pub(crate) fn has_primary(catalog: &Catalog, table: Option<usize>) -> bool
-    ensures { result ≡ tables.has_primary catalog.now table }
+pub fn has_primary(catalog: &Catalog, table: Option<usize>) -> bool
+    ensures { result ≡ catalogs.has_primary catalog.now table }
 {
     match table {
         None => false,

@@ -1,6 +1,6 @@
 /// How many of each a catalog has.
-#[derive(Clone, Copy, Debug)]
-pub(crate) struct Mark {
+#[derive(Drop)]
+pub struct Mark {
     pub(crate) tables: usize,
     pub(crate) keys: usize,
     pub(crate) primaries: usize,

@@ -4,16 +4,23 @@ ghost use Rattle.std.specs.Prelude.{◌≡◌, ◌++◌, ◌<◌, ◌≤◌, ℕ
 ghost use Rattle.std.specs.Fmt.{decimal};
 ghost use Rattle.std.specs.List.{list_any};
 ghost use Rattle.aq_base.specs.Names.{same_text};
-ghost use Rattle.aq_setup.specs.Catalogs.{constraint_names, constraints_named};
-ghost use Rattle.aq_setup.specs.Tables.{names_taken};
+ghost use Rattle.aq_catalog.specs.Catalogs.{constraint_names, constraints_named, names_taken};
 ghost use Rattle.aq_catalog.specs.Numbered.{AreTaken, is_of};
 
 use crate::catalog::Catalog;
-use crate::constraints::default_name;
 use crate::lookups::{is_of_at, is_taken};
-use crate::taken::with_number;
-use aq_base::{AlterTable, Constraint, TableConstraint, TextVal};
+use aq_base::{Constraint, TextVal};
+use itoa::Buffer;
 use std::alloc::{AllocError, Global};
+
+/// A name with a number behind it.
+pub fn with_number(alloc: Global, name: &TextVal, n: u64) -> Result<TextVal, AllocError>
+    ensures { IfOk result (λ made. made ≡ name.now ++ decimal n) }
+{
+    let mut text = String::from_str(alloc, name.as_str())?;
+    text.push_str(Buffer::new().format(n))?;
+    Ok(TextVal::from_string(text))
+}
 
 impl Catalog {
     /// The place of a table's constraint of a name.
@@ -28,7 +35,7 @@ impl Catalog {
     }
 
     /// A number such that the constraints of a table have the name with each lesser number behind it, counted from 1.
-    pub(crate) fn next_number(&self, table: Option<usize>, name: &TextVal) -> u64
+    pub fn next_number(&self, table: Option<usize>, name: &TextVal) -> u64
         ensures positive { 1 ≤ result }
         ensures lesser { (k : ℕ) → 1 ≤ k → k < result → list_any (same_text (name.now ++ decimal k)) (names_taken self.now table) ≡ true }
     {
@@ -63,7 +70,7 @@ impl Catalog {
     }
 
     /// Remembers where the search for another name like that of a table's constraint begins. The error is want of memory.
-    fn settle_number(
+    pub fn settle_number(
         &mut self,
         alloc: Global,
         table: Option<usize>,
@@ -91,27 +98,6 @@ impl Catalog {
                 let number = self.free_number(alloc, table, name)?;
                 keep_number(&mut self.next_numbers, place, number);
                 Ok(())
-            }
-        }
-    }
-
-    /// The same for the default name of a constraint that a statement gives no name. The error is want of memory.
-    pub(crate) fn settle_default_name(
-        &mut self,
-        alloc: Global,
-        s: &AlterTable,
-    ) -> Result<(), AllocError>
-        ensures { self.new ≡ self.old }
-    {
-        let (TableConstraint::PrimaryKey { name, .. }
-        | TableConstraint::Unique { name, .. }
-        | TableConstraint::ForeignKey { name, .. }) = &s.constraint;
-        match name {
-            Some(_) => Ok(()),
-            None => {
-                let name = default_name(alloc, &s.table, &s.constraint)?;
-                let table = self.table_at(&s.table);
-                self.settle_number(alloc, table, &name)
             }
         }
     }

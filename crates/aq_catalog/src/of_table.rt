@@ -2,7 +2,7 @@
 
 ghost use Rattle.std.specs.Prelude.{◌≡◌, ◌<◌, ◌≤◌, OnOk, OnErr, length, position, vec_len, vec_capacity};
 ghost use Rattle.std.specs.List.{list_any};
-ghost use Rattle.aq_setup.specs.Catalogs.{same_op, stands_before};
+ghost use Rattle.aq_catalog.specs.Catalogs.{same_op, stands_before};
 ghost use Rattle.aq_catalog.specs.Listed.{nothing_listed, listed_on, with_key_listed, with_trigger_listed, with_number, goes_before, place_among, below, listed_below};
 
 use aq_base::{KeyNo, Op, TextVal, TrigNo, Trigger};

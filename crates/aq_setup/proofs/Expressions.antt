@@ -8,7 +8,7 @@ use Rattle.aq_base.specs.declared.expr.Expr.TheVariants.{Constant, Column, Add, 
 use Rattle.aq_setup.specs.Scopes.{Scope}
 use Rattle.aq_setup.specs.Names.{unknown, unknown_columns, unknown_step}
 use Rattle.aq_setup.specs.Kinds.{Kinded, of_kind, constant_kind, arithmetic, compared, comparison_sign, kinded, kinded_step}
-use Rattle.aq_setup.specs.Catalogs.{column_kind}
+use Rattle.aq_catalog.specs.Catalogs.{column_kind}
 
 pub constant_names : (scope : Scope) (value : Value) → unknown_columns scope (Constant value) ≡ []
 constant_names scope value = ap (unknown_columns scope) (sym (rolls-Constant value)) ∙ fold-roll-Expr (List Text) (unknown_step scope) _

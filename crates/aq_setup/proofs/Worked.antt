@@ -22,8 +22,8 @@ use Rattle.aq_base.specs.declared.trigger.TriggerEvent.TheVariants as events
 use Rattle.aq_base.specs.declared.trigger.Each.TheVariants as each
 use Rattle.aq_base.specs.declared.statement.Statement.{Statement}
 use Rattle.aq_base.specs.declared.statement.Statement.TheVariants as statements
-use Rattle.aq_setup.specs.Catalogs.{Catalog, no_tables, triggers_of}
-use Rattle.aq_setup.specs.Faults.{no_relation, no_column, no_such_key, unequal_rows, wrong_value, no_operator, assigned_twice, long_name, constraint_exists, trigger_reserved}
+use Rattle.aq_catalog.specs.Catalogs.{Catalog, no_tables, triggers_of}
+use Rattle.aq_refusals.specs.Faults.{no_relation, no_column, no_such_key, unequal_rows, wrong_value, no_operator, assigned_twice, long_name, constraint_exists, trigger_reserved}
 use Rattle.aq_setup.specs.Constraints.{named}
 use Rattle.aq_setup.specs.Binding.{bind}
 use Rattle.aq_setup.specs.Setup.{define, defined, setup}

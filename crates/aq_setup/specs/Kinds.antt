@@ -22,9 +22,9 @@ use Rattle.aq_base.specs.declared.data.Update.{Update}
 use Rattle.aq_base.specs.declared.data.Delete.{Delete}
 use Rattle.aq_base.specs.declared.data.Select.{Select}
 use Rattle.aq_base.specs.declared.catalog.Column.{Column}
-use Rattle.aq_setup.specs.Catalogs.{table_columns, column_kind}
+use Rattle.aq_catalog.specs.Catalogs.{table_columns, column_kind}
 use Rattle.aq_setup.specs.Scopes.{Setting, Scope, no_row, table_scope, query_scope, qualified_cols}
-use Rattle.aq_setup.specs.Faults.{wrong_value, no_boolean, no_operator, no_negation}
+use Rattle.aq_refusals.specs.Faults.{wrong_value, no_boolean, no_operator, no_negation}
 
 abbrev pub is_number : Kind → Bool
 is_number kinds.Integer = true

@@ -10,9 +10,9 @@ use Rattle.aq_base.specs.declared.data.Source.TheVariants as sources
 use Rattle.aq_base.specs.declared.data.Insert.{Insert}
 use Rattle.aq_base.specs.declared.data.Update.{Update}
 use Rattle.aq_base.specs.declared.catalog.Column.{Column}
-use Rattle.aq_setup.specs.Catalogs.{table_columns}
+use Rattle.aq_catalog.specs.Catalogs.{table_columns}
 use Rattle.aq_setup.specs.Scopes.{Setting, repeats}
-use Rattle.aq_setup.specs.Faults.{assigned_twice, unequal_rows, many_values, few_values}
+use Rattle.aq_refusals.specs.Faults.{assigned_twice, unequal_rows, many_values, few_values}
 
 -- all rows are as long as the first
 abbrev pub row_lengths : List (List Given) → List SqlFault

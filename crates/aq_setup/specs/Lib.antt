@@ -1,6 +1,6 @@
-pub mod Faults
+pub use Rattle.aq_catalog.specs.Catalogs
+pub use Rattle.aq_refusals.specs.Faults
 pub mod Order
-pub mod Catalogs
 pub mod Scopes
 pub mod Names
 pub mod Lengths

@@ -18,9 +18,9 @@ use Rattle.aq_base.specs.declared.data.Columns.{Columns}
 use Rattle.aq_base.specs.declared.data.Columns.TheVariants as shown
 use Rattle.aq_base.specs.declared.data.Select.{Select}
 use Rattle.aq_base.specs.declared.catalog.Column.{Column}
-use Rattle.aq_setup.specs.Catalogs.{Catalog, table_number, table_columns, column_number}
+use Rattle.aq_catalog.specs.Catalogs.{Catalog, table_number, table_columns, column_number}
 use Rattle.aq_setup.specs.Scopes.{Setting, Scope, no_row, table_scope, is_transition, query_scope, qualified_cols}
-use Rattle.aq_setup.specs.Faults.{no_relation, no_target, no_column, column_twice}
+use Rattle.aq_refusals.specs.Faults.{no_relation, no_target, no_column, column_twice}
 
 -- the name where no column has it
 abbrev pub unknown : List Column → Text → List Text

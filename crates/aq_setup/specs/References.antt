@@ -7,10 +7,10 @@ use Rattle.aq_base.specs.declared.fault.SqlFault.{SqlFault}
 use Rattle.aq_base.specs.declared.script.Kind.{Kind}
 use Rattle.aq_base.specs.declared.constraint.Reference.{Reference}
 use Rattle.aq_base.specs.declared.catalog.Column.{Column}
-use Rattle.aq_setup.specs.Catalogs.{Catalog, table_columns, primary_cols, is_number_in}
-use Rattle.aq_setup.specs.Scopes.{number_of_table, number_of_column}
+use Rattle.aq_catalog.specs.Catalogs.{Catalog, table_columns, primary_cols, is_number_in}
+use Rattle.aq_catalog.specs.Catalogs.{number_of_table, number_of_column}
 use Rattle.aq_setup.specs.Kinds.{same_kind}
-use Rattle.aq_setup.specs.Faults.{unequal_columns, no_such_key, no_primary_key, unequal_kinds}
+use Rattle.aq_refusals.specs.Faults.{unequal_columns, no_such_key, no_primary_key, unequal_kinds}
 
 -- the columns that are named, or else those of the primary key. None where the table has none.
 abbrev pub referred_cols : Catalog → Text → Option (List Text) → Option (List ℕ)

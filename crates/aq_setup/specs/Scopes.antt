@@ -1,10 +1,10 @@
 -- What the names in a statement and in its expressions may stand for (PostgreSQL manual, section "Column References", and chapter
 -- "PL/pgSQL", section "Trigger Functions").
-use Rattle.std.specs.Prelude.{ℕ, Bool, false, ◌||◌, List, [], ◌∷◌, Option, Some, None, if◌then◌else◌, unwrap_or}
+use Rattle.std.specs.Prelude.{ℕ, Bool, false, ◌||◌, List, [], ◌∷◌, Option, Some, None, if◌then◌else◌}
 use Rattle.std.specs.List.{list_any}
 use Rattle.aq_base.specs.Names.{Text, same_text}
 use Rattle.aq_base.specs.declared.catalog.Column.{Column}
-use Rattle.aq_setup.specs.Catalogs.{Catalog, table_number, table_columns, column_number}
+use Rattle.aq_catalog.specs.Catalogs.{Catalog, table_columns}
 
 -- where a statement stands. The columns of OLD and NEW are those of the trigger's table; a session's statement has none, and no transition
 -- tables either.
@@ -45,14 +45,6 @@ query_scope setting name =
 -- the columns that may stand behind `table.`
 abbrev pub qualified_cols : Scope → Text → List Column
 qualified_cols scope table = if same_text scope.table table then scope.cols else []
-
--- ---- the numbers of names that are there
-
-abbrev pub number_of_table : Catalog → Text → ℕ
-number_of_table cat name = unwrap_or (table_number cat name) 0
-
-abbrev pub number_of_column : List Column → Text → ℕ
-number_of_column cols name = unwrap_or (column_number cols name) 0
 
 -- ---- names that stand more than once
 

@@ -8,12 +8,12 @@ use Rattle.aq_base.specs.declared.statement.Statement.TheVariants as statements
 use Rattle.aq_base.specs.declared.script.Placed.{Placed}
 use Rattle.aq_base.specs.declared.script.Script.{Script}
 use Rattle.aq_base.specs.declared.catalog.NativeName.{NativeName}
-use Rattle.aq_setup.specs.Catalogs.{Catalog, no_tables, function_named, native_named}
+use Rattle.aq_catalog.specs.Catalogs.{Catalog, no_tables, function_named, native_named}
 use Rattle.aq_setup.specs.Tables.{created, altered, with_added, create_table_faults, alter_table_faults}
 use Rattle.aq_setup.specs.Triggers.{plain_trigger, constraint_trigger, create_trigger_faults, with_trigger}
 use Rattle.aq_setup.specs.Binding.{unless_faulty}
 use Rattle.aq_setup.specs.Order.{SetupFaults, faultless, in_order}
-use Rattle.aq_setup.specs.Faults.{function_exists}
+use Rattle.aq_refusals.specs.Faults.{function_exists}
 
 -- a function's statements are looked at where a trigger names it
 abbrev pub create_function_faults : Catalog → List NativeName → CreateFunction → SetupFaults

@@ -30,14 +30,15 @@ use Rattle.aq_base.specs.declared.catalog.Table.{Table}
 use Rattle.aq_base.specs.declared.catalog.Trigger.{Trigger}
 use Rattle.aq_base.specs.declared.catalog.Does.{Does}
 use Rattle.aq_base.specs.declared.catalog.Does.TheVariants.{Check, Parent}
-use Rattle.aq_setup.specs.Catalogs.{Catalog, table_number, table_columns, columns_at, places, is_number_in, primary_cols, constraint_names}
-use Rattle.aq_setup.specs.Scopes.{number_of_table, number_of_column, repeats, repeats_behind}
+use Rattle.aq_catalog.specs.Catalogs.{Catalog, table_number, table_columns, columns_at, places, is_number_in, has_primary, names_taken}
+use Rattle.aq_setup.specs.Scopes.{repeats, repeats_behind}
+use Rattle.aq_catalog.specs.Catalogs.{number_of_table, number_of_column}
 use Rattle.aq_setup.specs.Names.{unknown, table_faults}
 use Rattle.aq_setup.specs.Kinds.{same_kind, constant_kind}
 use Rattle.aq_setup.specs.Constraints.{of_item, constrained_columns, reference_of, is_primary, NamedConstraint, named}
 use Rattle.aq_setup.specs.References.{parent_cols, count_faults, key_faults, primary_faults, kind_faults}
 use Rattle.aq_setup.specs.Order.{SetupFaults, faultless}
-use Rattle.aq_setup.specs.Faults.{no_column, column_twice, over_limit, long_name, relation_exists, constraint_exists, many_primary_keys, wrong_default}
+use Rattle.aq_refusals.specs.Faults.{no_column, column_twice, over_limit, long_name, relation_exists, constraint_exists, many_primary_keys, wrong_default}
 
 -- ---- columns
 
@@ -73,10 +74,6 @@ pub record Added : Type 0 where
   -- the catalog with the table, and without the constraints
   pub before : Catalog
   pub constraints : List NamedConstraint
-
-abbrev pub names_taken : Catalog → Option ℕ → List Text
-names_taken cat None = []
-names_taken cat (Some table) = constraint_names cat table
 
 abbrev pub added : Text → Option ℕ → Catalog → List TableConstraint → Added
 added table number cat constraints =
@@ -225,10 +222,6 @@ abbrev pub listed_twice : TableConstraint → List SqlFault
 listed_twice c = map column_twice (repeats (constrained_columns c) ++ repeats (referred_names (reference_of c)))
 
 -- 42P16: the table has a primary key, or gets a second
-abbrev pub has_primary : Catalog → Option ℕ → Bool
-has_primary cat None = false
-has_primary cat (Some table) = is_some (primary_cols cat table)
-
 abbrev pub second_primary : Added → List SqlFault
 second_primary a =
     let had : ℕ = (if has_primary a.before a.number then 1 else 0) in

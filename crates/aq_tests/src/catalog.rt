@@ -6,7 +6,10 @@ use aq_base::{
     Expr, Given, Insert, Kind, List, Select, SetConstraints, Source, Statement, TableItem, TextVal,
     Update, Value,
 };
-use aq_catalog::{CatFault, Catalog};
+use aq_binder::Bind;
+use aq_catalog::Catalog;
+use aq_define::Define;
+use aq_refusals::CatFault;
 use std::alloc::{AllocError, Global};
 use std::test::*;
 

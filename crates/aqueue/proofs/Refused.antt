@@ -8,9 +8,9 @@ use Rattle.aq_setup.specs.Setup.{RefusedSetup, setup}
 use Rattle.aq_script.specs.Reading.{Reads, HasNoReading, IsRefusedLine, IfRefused}
 use Rattle.aq_script.specs.declared.fault.ScriptFault.{ScriptFault}
 use Rattle.aq_script.specs.declared.fault.ScriptFault.TheVariants as read
-use Rattle.aq_catalog.specs.Built.{IsSetupFault}
-use Rattle.aq_catalog.specs.declared.building.BuildFault.{BuildFault}
-use Rattle.aq_catalog.specs.declared.building.BuildFault.TheVariants as build
+use Rattle.aq_define.specs.Built.{IsSetupFault}
+use Rattle.aq_define.specs.declared.building.BuildFault.{BuildFault}
+use Rattle.aq_define.specs.declared.building.BuildFault.TheVariants as build
 use Rattle.aq_simple.specs.Simple.{Runs, not_built_line}
 use Rattle.aqueue.specs.declared.task.Task.{Task}
 use Rattle.aqueue.specs.declared.task.Task.TheVariants.{Replay, Check}

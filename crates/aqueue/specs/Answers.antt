@@ -8,7 +8,7 @@ use Rattle.aq_first_base.specs.Setup.{program_of}
 use Rattle.aq_base.specs.declared.fault.SqlFault.{SqlFault}
 use Rattle.aq_base.specs.declared.script.Script.{Script}
 use Rattle.aq_first_base.specs.declared.simple.SimpleScript.{SimpleScript}
-use Rattle.aq_setup.specs.Catalogs.{Catalog}
+use Rattle.aq_catalog.specs.Catalogs.{Catalog}
 use Rattle.aq_setup.specs.Setup.{RefusedSetup, setup}
 use Rattle.aq_texts.specs.Canon.{canon}
 use Rattle.aq_words.specs.Commands.{command_of}

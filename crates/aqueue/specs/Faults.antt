@@ -3,8 +3,8 @@ use Rattle.std.specs.Prelude.{ℕ}
 use Rattle.aq_base.specs.declared.fault.SqlFault.{SqlFault}
 use Rattle.aq_script.specs.declared.fault.ScriptFault.{ScriptFault}
 use Rattle.aq_script.specs.declared.fault.ScriptFault.TheVariants as read
-use Rattle.aq_catalog.specs.declared.building.BuildFault.{BuildFault}
-use Rattle.aq_catalog.specs.declared.building.BuildFault.TheVariants as build
+use Rattle.aq_define.specs.declared.building.BuildFault.{BuildFault}
+use Rattle.aq_define.specs.declared.building.BuildFault.TheVariants as build
 use Rattle.aqueue.specs.declared.fault.RunFault.{RunFault}
 use Rattle.aqueue.specs.declared.fault.RunFault.TheVariants.{NoMemory, Script}
 

@@ -4,7 +4,7 @@ ghost use Rattle.std.specs.Prelude.{◌≡◌};
 ghost use Rattle.aqueue.specs.Faults as faults;
 
 use aq_base::SqlFault;
-use aq_catalog::BuildFault;
+use aq_define::BuildFault;
 use aq_script::ScriptFault;
 use thiserror::Error;
 

@@ -7,7 +7,7 @@ ghost use Rattle.aqueue.specs.Faults.{IfScript};
 
 use crate::fault::{RunFault, not_set_up, unread};
 use aq_base::Script;
-use aq_catalog::build;
+use aq_define::build;
 use aq_script::{one_reading, read_script};
 use std::alloc::Global;
 

@@ -1,6 +1,6 @@
 use Rattle.std.proofs.Common.{◌≡◌, ◌&&◌, ◌==◌, drop, find}
 use Rattle.std.specs.List.{enumerate_from}
-use Rattle.aq_setup.specs.Catalogs.{is_number_in}
+use Rattle.aq_catalog.specs.Catalogs.{is_number_in}
 use Rattle.aq_catalog.proofs.lookups.first_primary.Given as goal
 
 abbrev pub invariant-loop-number : goal.invariant-loop-number

@@ -1,8 +1,8 @@
 use Rattle.std.proofs.Common.{ℕ, List, Option, ◌==◌, slice_get, is_some, sym, ap, ◌∙◌}
 use Rattle.std.specs.List.{list_any}
 use Rattle.aq_base.specs.declared.catalog.UniqueKey.{UniqueKey}
-use Rattle.aq_setup.specs.Catalogs as catalogs
-use Rattle.aq_setup.specs.Tables.{has_primary}
+use Rattle.aq_catalog.specs.Catalogs as catalogs
+use Rattle.aq_catalog.specs.Catalogs.{has_primary}
 use Rattle.aq_catalog.specs.Indexed.{passes}
 use Rattle.aq_catalog.proofs.Passing.{any_at_numbers}
 use Rattle.aq_catalog.proofs.lookups.has_primary.Goals as goal

@@ -1,5 +1,5 @@
 use Rattle.std.proofs.Common.{◌≡◌, map, take}
-use Rattle.aq_setup.specs.Scopes.{number_of_column}
+use Rattle.aq_catalog.specs.Catalogs.{number_of_column}
 use Rattle.aq_catalog.proofs.lookups.numbers_of_columns.Given as goal
 
 abbrev pub invariant-loop-name : goal.invariant-loop-name

@@ -1,6 +1,6 @@
 use Rattle.std.proofs.Common.{ap, ◌∙◌, slice_get, Some}
 use Rattle.aq_base.specs.Names.{same_text}
-use Rattle.aq_setup.specs.Catalogs as catalogs
+use Rattle.aq_catalog.specs.Catalogs as catalogs
 use Rattle.aq_catalog.proofs.Places.{first_place}
 use Rattle.aq_catalog.proofs.catalog.Catalog.find.Goals as goal
 

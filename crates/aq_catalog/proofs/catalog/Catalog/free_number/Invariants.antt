@@ -1,5 +1,5 @@
 use Rattle.std.proofs.Common.{◌≤◌}
-use Rattle.aq_setup.specs.Catalogs.{constraint_names}
+use Rattle.aq_catalog.specs.Catalogs.{constraint_names}
 use Rattle.aq_catalog.specs.Numbered.{AreTaken}
 use Rattle.aq_catalog.proofs.catalog.Catalog.free_number.Given as goal
 

@@ -1,6 +1,6 @@
 use Rattle.std.proofs.Common.{ap, sym, ◌∙◌, slice_get}
 use Rattle.aq_base.specs.Names.{same_text}
-use Rattle.aq_setup.specs.Catalogs as catalogs
+use Rattle.aq_catalog.specs.Catalogs as catalogs
 use Rattle.aq_catalog.proofs.Places.{found_first, found_none}
 use Rattle.aq_catalog.proofs.catalog.Catalog.function.Goals as goal
 

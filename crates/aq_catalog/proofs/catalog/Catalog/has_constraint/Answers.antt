@@ -2,7 +2,7 @@ use Rattle.std.proofs.Common.{List, ◌==◌, slice_get, ap, ◌∙◌}
 use Rattle.std.specs.List.{list_any}
 use Rattle.aq_base.specs.Names.{same_text}
 use Rattle.aq_base.specs.declared.catalog.Constraint.{Constraint}
-use Rattle.aq_setup.specs.Catalogs as catalogs
+use Rattle.aq_catalog.specs.Catalogs as catalogs
 use Rattle.aq_catalog.specs.Indexed.{passes}
 use Rattle.aq_catalog.proofs.Passing.{any_named}
 use Rattle.aq_catalog.proofs.catalog.Catalog.has_constraint.Goals as goal

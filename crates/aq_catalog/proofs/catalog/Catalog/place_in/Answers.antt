@@ -1,5 +1,5 @@
 use Rattle.std.proofs.Common.{find, ap, ◌∙◌}
-use Rattle.aq_setup.specs.Catalogs.{constraints_named}
+use Rattle.aq_catalog.specs.Catalogs.{constraints_named}
 use Rattle.aq_catalog.specs.Numbered.{is_of}
 use Rattle.aq_catalog.proofs.catalog.Catalog.place_in.Goals as goal
 

@@ -12,7 +12,7 @@ invariant_of-self-2 c =
     subst (λ ts. (t : ℕ) → listed_at c.add_trigger.new.rows.items t ≡ (if table == t then with_trigger_listed ts c.args.trigger c.new-place.result (listed_at s.by_table.items t) else listed_at s.by_table.items t)) (c.as_slice.ensures.value ∙ c.in_ok-reserve.ensures.items) c.in_ok-add_trigger.ensures.ok in (
       subst (λ l. IsKept s.tables.items s.keys.items s.fks.items l c.add_trigger.new.rows.items) (sym pushed)
           (kept_trigger s.tables.items s.keys.items s.fks.items s.triggers.items s.by_table.items c.add_trigger.new.rows.items c.self.invariant.0 c.args.trigger table c.new-place.result
-          (c.from-table.ensures ∙ c.get.ensures) (omega (arith, c.new-place.ensures, c.in_ok-number.ensures.ok, c.len.ensures, s.triggers.ok.0)) added),
+          (c.from-table.ensures ∙ c.get.ensures) (omega (arith, c.new-place.ensures, c.in_ok-in_16_bits.ensures.ok, c.len.ensures, s.triggers.ok.0)) added),
       c.self.invariant.1,
       c.self.invariant.2,
       c.self.invariant.3,

@@ -1,5 +1,5 @@
 use Rattle.std.proofs.Common.{find, ap, sym, subst, ◌∙◌}
-use Rattle.aq_setup.specs.Catalogs.{constraint_names, constraints_named}
+use Rattle.aq_catalog.specs.Catalogs.{constraint_names, constraints_named}
 use Rattle.aq_catalog.specs.Numbered.{AreTaken, IsNumbered, is_of}
 use Rattle.aq_catalog.proofs.Numbering.{number_kept}
 use Rattle.aq_catalog.proofs.catalog.Catalog.settle_number_in.Goals as goal

@@ -1,0 +1,12 @@
+use Rattle.std.proofs.Common.{◌≡◌, length}
+use Rattle.aq_setup.specs.Kinds.{row_kinds}
+use Rattle.aq_binder.specs.Targets.{targets_of}
+use Rattle.aq_binder.proofs.kinds.row_kinds.Given as goal
+
+abbrev pub invariant-values : goal.invariant-values
+invariant-values g l =
+    row_kinds l.scope (targets_of g.T.Target.named (g.T.Target.wanted l.cols) l.targets) l.values
+    ≡ row_kinds l.scope (targets_of g.T.Target.named (g.T.Target.wanted l.cols) l.into) l.row
+
+abbrev pub decreases-values : goal.decreases-values
+decreases-values g l = length l.values

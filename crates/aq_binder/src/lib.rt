@@ -1,0 +1,16 @@
+//! Statements bound with a catalog: the faults of their names, lengths and kinds, and what they say once their names are numbers
+//! (PostgreSQL source, analyze.c).
+#![tactic(auto, using(aq_refusals::proofs::Telling::first_stays, aq_refusals::proofs::Telling::memory_ran_out, aq_refusals::proofs::Telling::fault_is_told, aq_refusals::proofs::Loops::fault_at, aq_refusals::proofs::Loops::mapped_fault_at))]
+
+mod binding;
+mod kinds;
+mod lengths;
+mod names;
+mod scopes;
+mod statements;
+
+pub use binding::{bound_body, bound_condition, bound_table};
+pub use kinds::{constant_kind, same_kind};
+pub use names::{columns_known, table_faults};
+pub use scopes::{Scope, Setting, in_session, no_row};
+pub use statements::{Bind, body_faults, condition_faults};

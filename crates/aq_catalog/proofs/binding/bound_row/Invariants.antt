@@ -1,6 +1,0 @@
-use Rattle.std.proofs.Common.{◌≡◌, map, take}
-use Rattle.aq_setup.specs.Binding.{bound_given}
-use Rattle.aq_catalog.proofs.binding.bound_row.Given as goal
-
-abbrev pub invariant-loop-given : goal.invariant-loop-given
-invariant-loop-given l = l.made ≡ map (bound_given l.scope) (take l.given-index l.row)

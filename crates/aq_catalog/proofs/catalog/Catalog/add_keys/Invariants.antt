@@ -1,7 +1,0 @@
-use Rattle.std.proofs.Common.{◌≡◌, drop}
-use Rattle.aq_setup.specs.Tables.{with_keys}
-use Rattle.aq_catalog.specs.Steps.{Follows}
-use Rattle.aq_catalog.proofs.catalog.Catalog.add_keys.Given as goal
-
-abbrev pub invariant-loop-n : goal.invariant-loop-n
-invariant-loop-n l = (with_keys l.table (drop l.n-index l.all) l.self ≡ with_keys l.table l.all l.fn.self) × Follows l.table l.fn.self l.self

@@ -1,6 +1,0 @@
-use Rattle.std.proofs.Common.{◌≡◌, [], take}
-use Rattle.aq_catalog.specs.Repeating.{faults_behind, assignment_repeated}
-use Rattle.aq_catalog.proofs.lengths.update_lengths.Given as goal
-
-abbrev pub invariant-assignments : goal.invariant-assignments
-invariant-assignments l = faults_behind assignment_repeated [] (take l.at l.assignments) ≡ []

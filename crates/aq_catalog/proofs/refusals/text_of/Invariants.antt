@@ -1,6 +1,0 @@
-use Rattle.std.proofs.Common.{◌≡◌, take, string_bytes}
-use Rattle.aq_catalog.specs.Pieces.{text_of}
-use Rattle.aq_catalog.proofs.refusals.text_of.Given as goal
-
-abbrev pub invariant-pieces : goal.invariant-pieces
-invariant-pieces l = string_bytes l.text ≡ text_of (take l.piece-index l.pieces)

@@ -1,6 +1,0 @@
-use Rattle.std.proofs.Common.{◌≡◌, map, take}
-use Rattle.aq_setup.specs.Catalogs.{constraints_named}
-use Rattle.aq_catalog.proofs.statements.constraints_named.Given as goal
-
-abbrev pub invariant-loop-name : goal.invariant-loop-name
-invariant-loop-name l = l.made ≡ map (constraints_named l.catalog) (take l.name-index l.names)

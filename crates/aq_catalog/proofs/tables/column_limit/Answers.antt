@@ -1,5 +1,0 @@
-use Rattle.std.proofs.Common.{sym, ◌∙◌}
-use Rattle.aq_catalog.proofs.tables.column_limit.Goals as goal
-
-pub returns-else-is_within : goal.returns-else-is_within
-returns-else-is_within c = (tt, rw (sym c.is_within.ensures ∙ c.if-is_within.false) c.over_limit.ensures)

@@ -1,6 +1,0 @@
-use Rattle.std.proofs.Common.{◌≡◌, [], take}
-use Rattle.aq_catalog.specs.Transitions.{olds}
-use Rattle.aq_catalog.proofs.wanted.first_old.Given as goal
-
-abbrev pub invariant-loop-table : goal.invariant-loop-table
-invariant-loop-table l = olds (take l.table-index l.transitions) ≡ []

@@ -1,0 +1,4 @@
+pub mod Ordering
+pub mod Behind
+pub mod Altered
+pub mod Building_on

@@ -1,0 +1,3 @@
+pub mod NamedTwice
+pub mod Items
+pub mod Pairs

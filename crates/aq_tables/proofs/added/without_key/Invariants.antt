@@ -1,0 +1,7 @@
+use Rattle.std.proofs.Common.{◌≡◌, drop}
+use Rattle.std.specs.List.{flat_map}
+use Rattle.aq_setup.specs.References.{key_faults}
+use Rattle.aq_tables.proofs.added.without_key.Given as goal
+
+abbrev pub invariant-loop-f : goal.invariant-loop-f
+invariant-loop-f l = flat_map (λ f. key_faults l.keyed f.reference) (drop l.f-index l.found) ≡ flat_map (λ f. key_faults l.keyed f.reference) l.found
