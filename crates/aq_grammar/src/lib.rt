@@ -13,7 +13,7 @@ mod terminals;
 
 pub use fault::ReadFault;
 pub use listing::{Form, listed};
-pub use naming::names;
+pub use naming::{column_list, names};
 pub use place::{RefusedPlace, refused_place};
 pub use prefixes::{behind_nots, behind_signs, nots, signs};
 pub use refusal::{
@@ -26,5 +26,5 @@ pub use scope::Scope;
 pub use terminals::{
     Read, are_words, count, heading, is_heading, is_literal, is_name, is_name_of, is_number,
     is_one_of, is_one_of_signs, is_plain_name, is_symbol, is_word, literal, message, name,
-    name_but, name_of, number, plain_name, public_name, sign, word,
+    name_but, name_of, number, plain_name, public_name, says, sign, word,
 };

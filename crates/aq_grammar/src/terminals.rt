@@ -8,7 +8,7 @@ ghost use Rattle.aq_grammar.specs.Terminals.{begins, begin_with, Keyword, Sign, 
 ghost use Rattle.aq_grammar.specs.Rules.{Token};
 ghost use Rattle.aq_grammar.specs.Expressions.{literal_in};
 ghost use Rattle.aq_grammar.specs.Nonterminals.{reads};
-ghost use Rattle.aq_grammar.specs.Forms.{word, sign, name, public_name};
+ghost use Rattle.aq_grammar.specs.Forms.{word, says, sign, name, public_name};
 ghost use Rattle.aq_grammar.specs.Steps.{Gives, read_text, first_text_of, first_count};
 
 use crate::fault::{ReadFault, syntax};
@@ -56,6 +56,17 @@ pub fn word<'a>(tokens: &Lexed<'a>, text: &[u8]) -> Read<'a, ()>
 {
     if tokens.is_word(text) {
         Ok(((), tokens.rest()))
+    } else {
+        Err(syntax(tokens))
+    }
+}
+
+/// A word that is given, in lower case, with what it says.
+pub fn says<'a, X: Drop>(tokens: &Lexed<'a>, text: &[u8], meaning: X) -> Read<'a, X>
+    ensures { Gives (λ x. x) result (reads (says text.now meaning) tokens.now) }
+{
+    if tokens.is_word(text) {
+        Ok((meaning, tokens.rest()))
     } else {
         Err(syntax(tokens))
     }

@@ -18,7 +18,7 @@ use std::alloc::{AllocError, Global};
 use thiserror::Error;
 
 /// A statement with the number of the token behind it.
-#[derive(Debug, Drop)]
+#[derive(Drop)]
 pub struct Parsed {
     pub statement: Statement,
     pub next: usize,
