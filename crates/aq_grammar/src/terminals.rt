@@ -2,8 +2,7 @@
 
 ghost use Rattle.std.specs.Prelude.{◌≡◌, ◌∷◌, [], pos, Option, Some, None, false, not, length, map, nat_le, IfOk, option_map, unwrap_or, if◌then◌else◌};
 ghost use Rattle.std.specs.List.{list_any};
-ghost use Rattle.aq_base.specs.Names.{reserved_words};
-ghost use Rattle.aq_lex.specs.Lexemes.{first_is_word, first_text};
+ghost use Rattle.aq_lex.specs.Lexemes.{first_text};
 ghost use Rattle.aq_grammar.specs.Terminals.{begins, begin_with, Keyword, Sign, Name, NameOf, NameBut, PlainName, Number, Count, Literal, LiteralInCode, Message, Heading, text_of, number_of, holds};
 ghost use Rattle.aq_grammar.specs.Rules.{Token};
 ghost use Rattle.aq_grammar.specs.Expressions.{literal_in};
@@ -35,19 +34,12 @@ pub fn are_words(tokens: &Lexed<'_>, first: &[u8], second: &[u8]) -> bool
     tokens.is_word(first) && tokens.rest().is_word(second)
 }
 
-/// Whether one of the words is the first token.
-fn is_among(tokens: &Lexed<'_>, words: &[&str]) -> bool
-    ensures { result ≡ list_any (λ word. first_is_word word.now tokens.now) words.now }
-{
-    words.iter().any(|word| tokens.is_word(word.as_bytes()))
-}
-
 /// Whether the first token is one of these words.
 #[tactic(auto, using(crate::proofs::Tokens::words_begin))]
 pub fn is_one_of(tokens: &Lexed<'_>, words: &[&str]) -> bool
     ensures { result ≡ begins (map (λ word. Keyword word.now) words.now) tokens.now }
 {
-    is_among(tokens, words)
+    tokens.is_one_of(words)
 }
 
 /// A word that is given, in lower case.
@@ -131,83 +123,6 @@ pub fn heading<'a>(tokens: &Lexed<'a>, directive: Directive) -> Read<'a, ()>
     }
 }
 
-/// Words that are no names (PostgreSQL manual, appendix "SQL Key Words").
-const RESERVED_WORDS: [&str; 67] = [
-    "add",
-    "after",
-    "all",
-    "alter",
-    "and",
-    "as",
-    "begin",
-    "by",
-    "cascade",
-    "check",
-    "commit",
-    "constraint",
-    "constraints",
-    "create",
-    "default",
-    "deferrable",
-    "deferred",
-    "delete",
-    "distinct",
-    "each",
-    "else",
-    "elsif",
-    "end",
-    "execute",
-    "false",
-    "for",
-    "foreign",
-    "from",
-    "function",
-    "if",
-    "immediate",
-    "initially",
-    "insert",
-    "into",
-    "is",
-    "key",
-    "match",
-    "new",
-    "not",
-    "null",
-    "old",
-    "on",
-    "only",
-    "or",
-    "primary",
-    "raise",
-    "references",
-    "referencing",
-    "release",
-    "restrict",
-    "return",
-    "rollback",
-    "row",
-    "savepoint",
-    "select",
-    "set",
-    "table",
-    "tg_op",
-    "then",
-    "to",
-    "trigger",
-    "true",
-    "unique",
-    "update",
-    "values",
-    "when",
-    "where",
-];
-
-fn is_reserved(tokens: &Lexed<'_>) -> bool
-    ensures { result ≡ list_any (λ word. first_is_word word tokens.now) reserved_words }
-{
-    is_among(tokens, &RESERVED_WORDS)
-}
-
 /// Whether the first token has a text of so many bytes at the most.
 fn is_within(tokens: &Lexed<'_>, most: usize) -> bool
     ensures { result ≡ unwrap_or (option_map (λ text. nat_le (length text) most) (first_text tokens.now)) false }
@@ -226,7 +141,7 @@ pub fn is_plain_name(tokens: &Lexed<'_>) -> bool
     ensures { result ≡ begins (PlainName ∷ []) tokens.now }
 {
     match tokens.kind() {
-        Some(TokenKind::Word) => is_within(tokens, MAX_NAME) && !is_reserved(tokens),
+        Some(TokenKind::Word) => is_within(tokens, MAX_NAME) && !tokens.is_reserved(),
         _ => false,
     }
 }

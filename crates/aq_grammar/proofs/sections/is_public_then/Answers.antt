@@ -2,7 +2,7 @@ use Rattle.std.proofs.Common.{◌∷◌, [], codes}
 use Rattle.aq_lex.specs.declared.token.Symbol.TheVariants.{Dot}
 use Rattle.aq_grammar.specs.Terminals.{Keyword, Name, NameOf, Sign}
 use Rattle.aq_grammar.proofs.Refusing.{goes_on_with}
-use Rattle.aq_grammar.proofs.refusal.is_public_then.Goals as goal
+use Rattle.aq_grammar.proofs.sections.is_public_then.Goals as goal
 
 pub returns-then-is_public : goal.returns-then-is_public
 returns-then-is_public c =

@@ -1,7 +1,7 @@
 use Rattle.aq_grammar.specs.Forms.{unsupported}
 use Rattle.aq_grammar.specs.Statements.{enabling}
 use Rattle.aq_grammar.proofs.Refusing.{refuses_found, refuses_nothing, enabling_is, enabling_said}
-use Rattle.aq_grammar.proofs.refusal.refuse_enabling.Goals as goal
+use Rattle.aq_grammar.proofs.sections.refuse_enabling.Goals as goal
 
 pub returns-then-branch : goal.returns-then-branch
 returns-then-branch c =

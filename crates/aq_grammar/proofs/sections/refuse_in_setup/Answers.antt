@@ -4,7 +4,7 @@ use Rattle.aq_grammar.specs.Rules.{Refusal}
 use Rattle.aq_grammar.specs.Bodies.{unsupported_statements}
 use Rattle.aq_grammar.specs.Statements.{enabling, other_objects}
 use Rattle.aq_grammar.proofs.Refusing.{refuses_first, refuses_then, data_refused}
-use Rattle.aq_grammar.proofs.refusal.refuse_in_setup.Goals as goal
+use Rattle.aq_grammar.proofs.sections.refuse_in_setup.Goals as goal
 
 -- the lists behind the first, and behind the second
 abbrev behind_first : List Refusal

@@ -1,6 +1,6 @@
 use Rattle.aq_grammar.specs.Forms.{unsupported}
 use Rattle.aq_grammar.proofs.Refusing.{refuses_found, refuses_nothing, data_is, data_refused, data_said}
-use Rattle.aq_grammar.proofs.refusal.refuse_session_statements.Goals as goal
+use Rattle.aq_grammar.proofs.sections.refuse_session_statements.Goals as goal
 
 pub returns-then-is_session_word : goal.returns-then-is_session_word
 returns-then-is_session_word c =
