@@ -8,7 +8,7 @@ use aq_lex::Lexed;
 use std::alloc::{AllocError, AllocFailed};
 
 /// Why a form could not be read, with the number of tokens from the refused one on.
-#[derive(Debug, Drop)]
+#[derive(Drop)]
 pub enum ReadFault {
     /// Memory ran out.
     NoMemory,

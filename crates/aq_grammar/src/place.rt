@@ -5,14 +5,14 @@ ghost use Rattle.aq_lex.specs.Lexemes.{first_text, first_integer};
 ghost use Rattle.aq_grammar.specs.Places.{syntax_error, long_name, out_of_range, long_text, begins_subquery, subquery_fault};
 ghost use Rattle.aq_grammar.specs.Stopping.{name_fault, text_fault, integer_fault, first_fault, syntax_fault, reason_of, fault_of, last_tokens, refused_place, IsPlace};
 
-use crate::refusal::plain_fault;
+use crate::refused::{naming_fault, plain_fault};
 use crate::terminals::{MAX_NAME, MAX_TEXT, is_symbol, is_word};
-use aq_base::{Code, NoMemory, SqlFault, TextVal};
+use aq_base::{NoMemory, SqlFault, TextVal};
 use aq_lex::{Lexed, Symbol, TokenKind};
 use std::alloc::Global;
 
 /// A place in tokens that is refused, and why.
-#[derive(Debug, Drop)]
+#[derive(Drop)]
 pub struct RefusedPlace {
     /// The number of tokens from the refused one on: 0 at the end of the tokens.
     pub left: usize,
@@ -46,16 +46,7 @@ fn long_text(alloc: Global) -> Result<SqlFault, NoMemory>
 fn long_name(alloc: Global, name: &TextVal) -> Result<SqlFault, NoMemory>
     ensures { IfOk result (λ fault. fault ≡ long_name name.now) }
 {
-    let mut text = String::from_str(alloc, "name ")?;
-    text.push_str("\"")?;
-    text.push_str(name.as_str())?;
-    text.push_str("\"")?;
-    text.push_str(" is too long")?;
-    Ok(SqlFault {
-        code: Code(*b"42622"),
-        text: TextVal::from_string(text),
-        detail: None,
-    })
+    naming_fault(alloc, b"42622", "name ", name, " is too long")
 }
 
 fn name_fault(alloc: Global, name: Option<TextVal>) -> Result<Option<SqlFault>, NoMemory>

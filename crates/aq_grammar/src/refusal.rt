@@ -1,63 +1,24 @@
 //! Forms that are known and not supported.
+#![tactic(auto, unfolding(crate::specs::Steps::RefusesSo), using(crate::proofs::Refusing::refuses_as))]
 
-ghost use Rattle.std.specs.Prelude.{◌≡◌, ◌∷◌, ◌||◌, [], codes, map, IfOk};
-ghost use Rattle.aq_lex.specs.declared.token.Symbol.TheVariants.{Dot, OpenParen};
-ghost use Rattle.aq_grammar.specs.Terminals.{begins, begin_with, Keyword, Name, NameOf, Sign};
+ghost use Rattle.std.specs.Prelude.{◌≡◌, ◌∷◌, [], codes};
+ghost use Rattle.aq_lex.specs.declared.token.Symbol.TheVariants.{OpenParen};
+ghost use Rattle.aq_grammar.specs.Terminals.{begin_with, Keyword, Sign};
 ghost use Rattle.aq_grammar.specs.Bodies.{unsupported_statements, refused_in_code};
 ghost use Rattle.aq_grammar.specs.Changes.{joins, returning, on_conflict, no_wait};
-ghost use Rattle.aq_grammar.specs.Forms.{unsupported, limit, refuse_word};
-ghost use Rattle.aq_grammar.specs.Statements.{enabling, other_objects, session_words, refused_in_setup, refused_in_session};
-ghost use Rattle.aq_grammar.specs.Steps.{IsFaultOr, RefusesSo, table_then, alters};
+ghost use Rattle.aq_grammar.specs.Statements.{other_objects};
+ghost use Rattle.aq_grammar.specs.Steps.{RefusesSo};
 ghost use Rattle.aq_grammar.specs.Tables.{behind_key, other_constraints, other_items, not_valid, partial_match, behind_items};
 ghost use Rattle.aq_grammar.specs.Transactions.{serializable};
 ghost use Rattle.aq_grammar.specs.Triggers.{not_after};
 
 use crate::fault::ReadFault;
-use crate::terminals::{are_words, is_name, is_name_of, is_one_of, is_symbol, is_word};
-use aq_base::{Code, NoMemory, SqlFault, TextVal};
+use crate::refused::{passes_limit, unsupported};
+use crate::terminals::{are_words, is_symbol, is_word};
 use aq_lex::{Lexed, Symbol};
 use std::alloc::Global;
 
-/// A fault with no detail.
-pub(crate) fn plain_fault(alloc: Global, code: &[u8; 5], text: &str) -> Result<SqlFault, NoMemory>
-    ensures { IfOk result (λ fault. fault ≡ record { code = record { 0 = code.now }; text = text.now; detail = None }) }
-{
-    Ok(SqlFault {
-        code: Code(*code),
-        text: TextVal::new(alloc, text)?,
-        detail: None,
-    })
-}
-
-/// The tokens are refused where they begin, with a code and a text.
-fn refused(alloc: Global, tokens: &Lexed<'_>, code: &[u8; 5], text: &str) -> ReadFault
-    ensures { IsFaultOr (record { code = record { 0 = code.now }; text = text.now; detail = None }) tokens.now result }
-{
-    match plain_fault(alloc, code, text) {
-        Ok(fault) => ReadFault::Refused {
-            left: tokens.len(),
-            fault,
-        },
-        Err(_) => ReadFault::NoMemory,
-    }
-}
-
-/// A form that is not supported begins the tokens.
-pub fn unsupported(alloc: Global, tokens: &Lexed<'_>, text: &str) -> ReadFault
-    ensures { IsFaultOr (unsupported text.now) tokens.now result }
-{
-    refused(alloc, tokens, b"0A000", text)
-}
-
-/// A limit is passed where the tokens begin.
-pub fn passes_limit(alloc: Global, tokens: &Lexed<'_>, text: &str) -> ReadFault
-    ensures { IsFaultOr (limit text.now) tokens.now result }
-{
-    refused(alloc, tokens, b"54000", text)
-}
-
 /// One table stands behind FROM.
-#[tactic(auto, unfolding(crate::specs::Steps::RefusesSo), using(crate::proofs::Refusing::refuses_as))]
 pub fn refuse_joins(alloc: Global, tokens: &Lexed<'_>) -> Result<(), ReadFault>
     ensures { RefusesSo joins result tokens.now }
 {
@@ -68,7 +29,6 @@ pub fn refuse_joins(alloc: Global, tokens: &Lexed<'_>) -> Result<(), ReadFault>
 }
 
 /// No RETURNING stands behind a change.
-#[tactic(auto, unfolding(crate::specs::Steps::RefusesSo), using(crate::proofs::Refusing::refuses_as))]
 pub fn refuse_returning(alloc: Global, tokens: &Lexed<'_>) -> Result<(), ReadFault>
     ensures { RefusesSo (returning ∷ []) result tokens.now }
 {
@@ -79,7 +39,6 @@ pub fn refuse_returning(alloc: Global, tokens: &Lexed<'_>) -> Result<(), ReadFau
 }
 
 /// Neither RETURNING nor ON CONFLICT stands behind INSERT.
-#[tactic(auto, unfolding(crate::specs::Steps::RefusesSo), using(crate::proofs::Refusing::refuses_as))]
 pub fn refuse_behind_insert(alloc: Global, tokens: &Lexed<'_>) -> Result<(), ReadFault>
     ensures { RefusesSo (returning ∷ on_conflict ∷ []) result tokens.now }
 {
@@ -93,7 +52,6 @@ pub fn refuse_behind_insert(alloc: Global, tokens: &Lexed<'_>) -> Result<(), Rea
 }
 
 /// A lock waits for others: neither NOWAIT nor SKIP LOCKED stands behind it.
-#[tactic(auto, unfolding(crate::specs::Steps::RefusesSo), using(crate::proofs::Refusing::refuses_as))]
 pub fn refuse_no_wait(alloc: Global, tokens: &Lexed<'_>) -> Result<(), ReadFault>
     ensures { RefusesSo no_wait result tokens.now }
 {
@@ -107,8 +65,10 @@ pub fn refuse_no_wait(alloc: Global, tokens: &Lexed<'_>) -> Result<(), ReadFault
 }
 
 /// Statements that stand nowhere.
-#[tactic(auto, unfolding(crate::specs::Steps::RefusesSo), using(crate::proofs::Refusing::refuses_as))]
-fn refuse_unsupported_statements(alloc: Global, tokens: &Lexed<'_>) -> Result<(), ReadFault>
+pub(crate) fn refuse_unsupported_statements(
+    alloc: Global,
+    tokens: &Lexed<'_>,
+) -> Result<(), ReadFault>
     ensures { RefusesSo unsupported_statements result tokens.now }
 {
     if is_word(tokens, b"truncate") {
@@ -143,7 +103,6 @@ fn is_serializable(tokens: &Lexed<'_>) -> bool
 }
 
 /// No transaction is serializable.
-#[tactic(auto, unfolding(crate::specs::Steps::RefusesSo), using(crate::proofs::Refusing::refuses_as))]
 pub fn refuse_serializable(alloc: Global, tokens: &Lexed<'_>) -> Result<(), ReadFault>
     ensures { RefusesSo (serializable ∷ []) result tokens.now }
 {
@@ -154,7 +113,6 @@ pub fn refuse_serializable(alloc: Global, tokens: &Lexed<'_>) -> Result<(), Read
 }
 
 /// NOT VALID stands nowhere.
-#[tactic(auto, unfolding(crate::specs::Steps::RefusesSo), using(crate::proofs::Refusing::refuses_as))]
 pub fn refuse_not_valid(alloc: Global, tokens: &Lexed<'_>) -> Result<(), ReadFault>
     ensures { RefusesSo (not_valid ∷ []) result tokens.now }
 {
@@ -165,7 +123,6 @@ pub fn refuse_not_valid(alloc: Global, tokens: &Lexed<'_>) -> Result<(), ReadFau
 }
 
 /// What stands behind no PRIMARY KEY and no UNIQUE.
-#[tactic(auto, unfolding(crate::specs::Steps::RefusesSo), using(crate::proofs::Refusing::refuses_as))]
 pub fn refuse_behind_key(alloc: Global, tokens: &Lexed<'_>) -> Result<(), ReadFault>
     ensures { RefusesSo behind_key result tokens.now }
 {
@@ -182,7 +139,6 @@ pub fn refuse_behind_key(alloc: Global, tokens: &Lexed<'_>) -> Result<(), ReadFa
 }
 
 /// Constraints of kinds that no table has.
-#[tactic(auto, unfolding(crate::specs::Steps::RefusesSo), using(crate::proofs::Refusing::refuses_as))]
 pub fn refuse_other_constraints(alloc: Global, tokens: &Lexed<'_>) -> Result<(), ReadFault>
     ensures { RefusesSo other_constraints result tokens.now }
 {
@@ -196,7 +152,6 @@ pub fn refuse_other_constraints(alloc: Global, tokens: &Lexed<'_>) -> Result<(),
 }
 
 /// NOT VALID, and constraints of kinds that no table has.
-#[tactic(auto, unfolding(crate::specs::Steps::RefusesSo), using(crate::proofs::Refusing::refuses_as))]
 pub fn refuse_behind_reference(alloc: Global, tokens: &Lexed<'_>) -> Result<(), ReadFault>
     ensures { RefusesSo (not_valid ∷ other_constraints) result tokens.now }
 {
@@ -221,7 +176,6 @@ fn is_exclusion_list(tokens: &Lexed<'_>) -> bool
 }
 
 /// Items of kinds that no table has.
-#[tactic(auto, unfolding(crate::specs::Steps::RefusesSo), using(crate::proofs::Refusing::refuses_as))]
 pub fn refuse_other_items(alloc: Global, tokens: &Lexed<'_>) -> Result<(), ReadFault>
     ensures { RefusesSo other_items result tokens.now }
 {
@@ -235,7 +189,6 @@ pub fn refuse_other_items(alloc: Global, tokens: &Lexed<'_>) -> Result<(), ReadF
 }
 
 /// No reference matches in part.
-#[tactic(auto, unfolding(crate::specs::Steps::RefusesSo), using(crate::proofs::Refusing::refuses_as))]
 pub fn refuse_partial_match(alloc: Global, tokens: &Lexed<'_>) -> Result<(), ReadFault>
     ensures { RefusesSo (partial_match ∷ []) result tokens.now }
 {
@@ -246,7 +199,6 @@ pub fn refuse_partial_match(alloc: Global, tokens: &Lexed<'_>) -> Result<(), Rea
 }
 
 /// What stands behind the items of no table.
-#[tactic(auto, unfolding(crate::specs::Steps::RefusesSo), using(crate::proofs::Refusing::refuses_as))]
 pub fn refuse_behind_items(alloc: Global, tokens: &Lexed<'_>) -> Result<(), ReadFault>
     ensures { RefusesSo behind_items result tokens.now }
 {
@@ -260,7 +212,6 @@ pub fn refuse_behind_items(alloc: Global, tokens: &Lexed<'_>) -> Result<(), Read
 }
 
 /// A trigger fires after its event.
-#[tactic(auto, unfolding(crate::specs::Steps::RefusesSo), using(crate::proofs::Refusing::refuses_as))]
 pub fn refuse_not_after(alloc: Global, tokens: &Lexed<'_>) -> Result<(), ReadFault>
     ensures { RefusesSo not_after result tokens.now }
 {
@@ -273,78 +224,8 @@ pub fn refuse_not_after(alloc: Global, tokens: &Lexed<'_>) -> Result<(), ReadFau
     Ok(())
 }
 
-/// Whether the tokens begin with a name and then this word.
-#[tactic(auto, using(crate::proofs::Refusing::begin_both))]
-fn is_name_then(tokens: &Lexed<'_>, last: &[u8]) -> bool
-    ensures { result ≡ begin_with (Name ∷ Keyword last.now ∷ []) tokens.now }
-{
-    is_name(tokens) && is_word(&tokens.rest(), last)
-}
-
-/// Whether the tokens begin with a dot, a name and then this word.
-#[tactic(auto, using(crate::proofs::Refusing::begin_both))]
-fn is_dot_name_then(tokens: &Lexed<'_>, last: &[u8]) -> bool
-    ensures { result ≡ begin_with (Sign Dot ∷ Name ∷ Keyword last.now ∷ []) tokens.now }
-{
-    is_symbol(tokens, Symbol::Dot) && is_name_then(&tokens.rest(), last)
-}
-
-/// Whether the tokens begin with `public.`, a name and then this word.
-fn is_public_then(alloc: Global, tokens: &Lexed<'_>, last: &[u8]) -> Result<bool, NoMemory>
-    ensures { IfOk result (λ found. found ≡ begin_with (NameOf (codes "public") ∷ Sign Dot ∷ Name ∷ Keyword last.now ∷ []) tokens.now) }
-{
-    let is_public = is_name_of(alloc, tokens, b"public")?;
-    Ok(is_public && is_dot_name_then(&tokens.rest(), last))
-}
-
-/// Whether the tokens begin with a table and then this word.
-fn is_table_then(alloc: Global, tokens: &Lexed<'_>, last: &[u8]) -> Result<bool, NoMemory>
-    ensures { IfOk result (λ found. found ≡ table_then last.now tokens.now) }
-{
-    let is_public = is_public_then(alloc, tokens, last)?;
-    Ok(is_name_then(tokens, last) || is_public)
-}
-
-/// Whether the tokens are ALTER TABLE with this word behind the table.
-fn alter_with(alloc: Global, tokens: &Lexed<'_>, last: &[u8]) -> Result<bool, NoMemory>
-    ensures { IfOk result (λ found. found ≡ alters last.now tokens.now) }
-{
-    if !are_words(tokens, b"alter", b"table") {
-        return Ok(false);
-    }
-    let behind = tokens.rest().rest();
-    let is_table = is_table_then(alloc, &behind, last)?;
-    let is_table_only = is_table_then(alloc, &behind.rest(), last)?;
-    Ok(is_table || (is_word(&behind, b"only") && is_table_only))
-}
-
-/// Whether the tokens enable or disable a trigger.
-fn is_enabling(alloc: Global, tokens: &Lexed<'_>) -> Result<bool, NoMemory>
-    ensures { IfOk result (λ found. found ≡ (alters (codes "enable") tokens.now || alters (codes "disable") tokens.now)) }
-{
-    let enables = alter_with(alloc, tokens, b"enable")?;
-    let disables = alter_with(alloc, tokens, b"disable")?;
-    Ok(enables || disables)
-}
-
-/// No trigger is enabled or disabled.
-#[tactic(auto, using(crate::proofs::Refusing::refuses_none))]
-fn refuse_enabling(alloc: Global, tokens: &Lexed<'_>) -> Result<(), ReadFault>
-    ensures { RefusesSo enabling result tokens.now }
-{
-    if is_enabling(alloc, tokens)? {
-        return Err(unsupported(
-            alloc,
-            tokens,
-            "enabling and disabling triggers is not supported",
-        ));
-    }
-    Ok(())
-}
-
 /// No views and no rules.
-#[tactic(auto, unfolding(crate::specs::Steps::RefusesSo), using(crate::proofs::Refusing::refuses_as))]
-fn refuse_other_objects(alloc: Global, tokens: &Lexed<'_>) -> Result<(), ReadFault>
+pub(crate) fn refuse_other_objects(alloc: Global, tokens: &Lexed<'_>) -> Result<(), ReadFault>
     ensures { RefusesSo other_objects result tokens.now }
 {
     if are_words(tokens, b"create", b"view") {
@@ -354,59 +235,4 @@ fn refuse_other_objects(alloc: Global, tokens: &Lexed<'_>) -> Result<(), ReadFau
         return Err(unsupported(alloc, tokens, "rules are not supported"));
     }
     Ok(())
-}
-
-/// The words with which a session's statement begins.
-const SESSION_WORDS: [&str; 13] = [
-    "insert",
-    "update",
-    "delete",
-    "select",
-    "set",
-    "begin",
-    "start",
-    "commit",
-    "end",
-    "rollback",
-    "abort",
-    "savepoint",
-    "release",
-];
-
-/// Whether a session's statement begins the tokens.
-pub fn is_session_word(tokens: &Lexed<'_>) -> bool
-    ensures { result ≡ begins (map (λ text. Keyword text) session_words) tokens.now }
-{
-    is_one_of(tokens, &SESSION_WORDS)
-}
-
-/// No statement of a session stands in setup.
-fn refuse_session_statements(alloc: Global, tokens: &Lexed<'_>) -> Result<(), ReadFault>
-    ensures { RefusesSo (map (λ text. refuse_word text (codes "data statements in setup are not supported")) session_words) result tokens.now }
-{
-    if is_session_word(tokens) {
-        return Err(unsupported(alloc, tokens, "data statements in setup are not supported"));
-    }
-    Ok(())
-}
-
-/// What is refused where a statement of the setup may begin.
-pub fn refuse_in_setup(alloc: Global, tokens: &Lexed<'_>) -> Result<(), ReadFault>
-    ensures { RefusesSo refused_in_setup result tokens.now }
-{
-    refuse_enabling(alloc, tokens)?;
-    refuse_other_objects(alloc, tokens)?;
-    refuse_unsupported_statements(alloc, tokens)?;
-    refuse_session_statements(alloc, tokens)
-}
-
-/// What is refused where a statement of a session may begin.
-#[tactic(auto, unfolding(crate::specs::Steps::RefusesSo), using(crate::proofs::Refusing::refuses_as, crate::proofs::Refusing::refuses_alike))]
-pub fn refuse_in_session(alloc: Global, tokens: &Lexed<'_>) -> Result<(), ReadFault>
-    ensures { RefusesSo refused_in_session result tokens.now }
-{
-    if is_word(tokens, b"create") || is_word(tokens, b"alter") {
-        return Err(unsupported(alloc, tokens, "DDL outside setup is not supported"));
-    }
-    refuse_unsupported_statements(alloc, tokens)
 }

@@ -1,7 +1,7 @@
 //! What an expression may name.
 
 /// Where an expression stands, which says what it may name.
-#[derive(Clone, Copy, Debug, PartialEq, Eq)]
+#[derive(Clone, Copy)]
 pub enum Scope {
     /// In a statement of a session: the columns of the statement's table.
     InStatement,

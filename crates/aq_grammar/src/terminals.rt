@@ -2,13 +2,12 @@
 
 ghost use Rattle.std.specs.Prelude.{◌≡◌, ◌∷◌, [], pos, Option, Some, None, false, not, length, map, nat_le, IfOk, option_map, unwrap_or, if◌then◌else◌};
 ghost use Rattle.std.specs.List.{list_any};
-ghost use Rattle.aq_base.specs.Names.{reserved_words};
-ghost use Rattle.aq_lex.specs.Lexemes.{first_is_word, first_text};
+ghost use Rattle.aq_lex.specs.Lexemes.{first_text};
 ghost use Rattle.aq_grammar.specs.Terminals.{begins, begin_with, Keyword, Sign, Name, NameOf, NameBut, PlainName, Number, Count, Literal, LiteralInCode, Message, Heading, text_of, number_of, holds};
 ghost use Rattle.aq_grammar.specs.Rules.{Token};
 ghost use Rattle.aq_grammar.specs.Expressions.{literal_in};
 ghost use Rattle.aq_grammar.specs.Nonterminals.{reads};
-ghost use Rattle.aq_grammar.specs.Forms.{word, sign, name, public_name};
+ghost use Rattle.aq_grammar.specs.Forms.{word, says, sign, name, public_name};
 ghost use Rattle.aq_grammar.specs.Steps.{Gives, read_text, first_text_of, first_count};
 
 use crate::fault::{ReadFault, syntax};
@@ -35,19 +34,12 @@ pub fn are_words(tokens: &Lexed<'_>, first: &[u8], second: &[u8]) -> bool
     tokens.is_word(first) && tokens.rest().is_word(second)
 }
 
-/// Whether one of the words is the first token.
-fn is_among(tokens: &Lexed<'_>, words: &[&str]) -> bool
-    ensures { result ≡ list_any (λ word. first_is_word word.now tokens.now) words.now }
-{
-    words.iter().any(|word| tokens.is_word(word.as_bytes()))
-}
-
 /// Whether the first token is one of these words.
 #[tactic(auto, using(crate::proofs::Tokens::words_begin))]
 pub fn is_one_of(tokens: &Lexed<'_>, words: &[&str]) -> bool
     ensures { result ≡ begins (map (λ word. Keyword word.now) words.now) tokens.now }
 {
-    is_among(tokens, words)
+    tokens.is_one_of(words)
 }
 
 /// A word that is given, in lower case.
@@ -56,6 +48,17 @@ pub fn word<'a>(tokens: &Lexed<'a>, text: &[u8]) -> Read<'a, ()>
 {
     if tokens.is_word(text) {
         Ok(((), tokens.rest()))
+    } else {
+        Err(syntax(tokens))
+    }
+}
+
+/// A word that is given, in lower case, with what it says.
+pub fn says<'a, X: Drop>(tokens: &Lexed<'a>, text: &[u8], meaning: X) -> Read<'a, X>
+    ensures { Gives (λ x. x) result (reads (says text.now meaning) tokens.now) }
+{
+    if tokens.is_word(text) {
+        Ok((meaning, tokens.rest()))
     } else {
         Err(syntax(tokens))
     }
@@ -120,83 +123,6 @@ pub fn heading<'a>(tokens: &Lexed<'a>, directive: Directive) -> Read<'a, ()>
     }
 }
 
-/// Words that are no names (PostgreSQL manual, appendix "SQL Key Words").
-const RESERVED_WORDS: [&str; 67] = [
-    "add",
-    "after",
-    "all",
-    "alter",
-    "and",
-    "as",
-    "begin",
-    "by",
-    "cascade",
-    "check",
-    "commit",
-    "constraint",
-    "constraints",
-    "create",
-    "default",
-    "deferrable",
-    "deferred",
-    "delete",
-    "distinct",
-    "each",
-    "else",
-    "elsif",
-    "end",
-    "execute",
-    "false",
-    "for",
-    "foreign",
-    "from",
-    "function",
-    "if",
-    "immediate",
-    "initially",
-    "insert",
-    "into",
-    "is",
-    "key",
-    "match",
-    "new",
-    "not",
-    "null",
-    "old",
-    "on",
-    "only",
-    "or",
-    "primary",
-    "raise",
-    "references",
-    "referencing",
-    "release",
-    "restrict",
-    "return",
-    "rollback",
-    "row",
-    "savepoint",
-    "select",
-    "set",
-    "table",
-    "tg_op",
-    "then",
-    "to",
-    "trigger",
-    "true",
-    "unique",
-    "update",
-    "values",
-    "when",
-    "where",
-];
-
-fn is_reserved(tokens: &Lexed<'_>) -> bool
-    ensures { result ≡ list_any (λ word. first_is_word word tokens.now) reserved_words }
-{
-    is_among(tokens, &RESERVED_WORDS)
-}
-
 /// Whether the first token has a text of so many bytes at the most.
 fn is_within(tokens: &Lexed<'_>, most: usize) -> bool
     ensures { result ≡ unwrap_or (option_map (λ text. nat_le (length text) most) (first_text tokens.now)) false }
@@ -215,7 +141,7 @@ pub fn is_plain_name(tokens: &Lexed<'_>) -> bool
     ensures { result ≡ begins (PlainName ∷ []) tokens.now }
 {
     match tokens.kind() {
-        Some(TokenKind::Word) => is_within(tokens, MAX_NAME) && !is_reserved(tokens),
+        Some(TokenKind::Word) => is_within(tokens, MAX_NAME) && !tokens.is_reserved(),
         _ => false,
     }
 }

@@ -1,9 +1,12 @@
 //! Tokens with the bytes that they stand for.
 
 ghost use Rattle.std.specs.Prelude.{◌≡◌, [], ◌↔◌, length, take, drop, IsTrue, IfOk, option_map};
+ghost use Rattle.std.specs.List.{list_any};
+ghost use Rattle.aq_base.specs.Names.{reserved_words};
 ghost use Rattle.aq_lex.specs.Tokens.{Lexes};
 ghost use Rattle.aq_lex.specs.Lexemes.{lexemes, first_line, first_kind, first_text, first_integer, first_is_word, first_is_symbol, first_is_directive};
 
+use crate::reserved::RESERVED_WORDS;
 use crate::token::{Directive, Symbol, Token, TokenKind};
 use crate::value::{
     first_line, integer_of, is_directive, is_symbol, is_word, next_line, text_len, text_of,
@@ -43,6 +46,13 @@ fn tokens_behind(tokens: &[Token], count: usize) -> &[Token]
     ensures { result.now ≡ drop count tokens.now }
 {
     tokens.get(count..).unwrap_or(&[])
+}
+
+/// Whether one of the words, in lower case, is the first token.
+fn is_among(tokens: &Lexed<'_>, words: &[&str]) -> bool
+    ensures { result ≡ list_any (λ word. first_is_word word.now tokens.now) words.now }
+{
+    words.iter().any(|word| tokens.is_word(word.as_bytes()))
 }
 
 impl<'a> Lexed<'a> {
@@ -153,6 +163,20 @@ impl<'a> Lexed<'a> {
             Some(token) => is_word(self.bytes, token, word),
             None => false,
         }
+    }
+
+    /// Whether the first token is one of these words, in lower case.
+    pub fn is_one_of(&self, words: &[&str]) -> bool
+        ensures { result ≡ list_any (λ word. first_is_word word.now self.now) words.now }
+    {
+        is_among(self, words)
+    }
+
+    /// Whether the first token is a word that is no name.
+    pub fn is_reserved(&self) -> bool
+        ensures { result ≡ list_any (λ word. first_is_word word self.now) reserved_words }
+    {
+        is_among(self, &RESERVED_WORDS)
     }
 
     /// Whether the first token is this symbol.

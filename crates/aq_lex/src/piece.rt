@@ -3,7 +3,7 @@
 use crate::token::TokenKind;
 
 /// What stands at a place of a script.
-#[derive(Clone, Copy, Debug)]
+#[derive(Clone, Copy)]
 pub enum Piece {
     /// A space, a tab, a CR or an LF.
     Blank,
@@ -14,7 +14,7 @@ pub enum Piece {
 }
 
 /// A piece that goes on as long as its bytes are of one class.
-#[derive(Clone, Copy, Debug)]
+#[derive(Clone, Copy)]
 pub enum Class {
     /// A letter, a digit, `_` or `$`.
     InWord,

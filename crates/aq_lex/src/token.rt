@@ -1,7 +1,7 @@
 //! Tokens, as the places of their bytes.
 
 /// A symbol (PostgreSQL manual, section "Lexical Structure").
-#[derive(Clone, Copy, Debug, PartialEq, Eq)]
+#[derive(Clone, Copy, PartialEq, Eq)]
 pub enum Symbol {
     OpenParen,
     CloseParen,
@@ -21,7 +21,7 @@ pub enum Symbol {
 }
 
 /// A directive, with which a section of a script begins.
-#[derive(Clone, Copy, Debug, PartialEq, Eq)]
+#[derive(Clone, Copy, PartialEq, Eq)]
 pub enum Directive {
     Setup,
     Session,
@@ -29,7 +29,7 @@ pub enum Directive {
 }
 
 /// What a token is.
-#[derive(Clone, Copy, Debug, PartialEq, Eq)]
+#[derive(Clone, Copy, PartialEq, Eq)]
 pub enum TokenKind {
     /// A word in letters of either case.
     Word,
@@ -44,7 +44,7 @@ pub enum TokenKind {
 }
 
 /// A token: its bytes are those of the script from `from` to before `to`.
-#[derive(Clone, Copy, Debug)]
+#[derive(Clone, Copy)]
 pub struct Token {
     pub kind: TokenKind,
     pub from: usize,

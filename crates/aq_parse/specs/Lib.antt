@@ -1,7 +1,5 @@
 pub mod Shorter
-pub mod ShorterItems
-pub mod Targets
-pub mod ColumnConstraints
+pub mod Functions
 pub mod Triggers
 pub mod Bodies
 pub mod Statements

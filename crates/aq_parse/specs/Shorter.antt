@@ -7,7 +7,7 @@ use Rattle.aq_grammar.specs.declared.scope.Scope.TheVariants.{InStatement, InCon
 use Rattle.aq_grammar.specs.Rules.{Rule}
 use Rattle.aq_grammar.specs.Reading.{Read}
 use Rattle.aq_grammar.specs.Nonterminals.{rules, marks, reads}
-use Rattle.aq_grammar.specs.Forms.{name, public_name}
+use Rattle.aq_grammar.specs.Forms.{name}
 use Rattle.aq_grammar.specs.Expressions as e
 use Rattle.aq_grammar.specs.Changes.{given, row_values, assignment}
 use Rattle.aq_grammar.proofs.Shorter.{reads_shorten}
@@ -15,10 +15,6 @@ use Rattle.aq_grammar.proofs.Shorter.{reads_shorten}
 -- what is read of the rule leaves fewer tokens than there were
 abbrev pub Shortens : {A : Type 0} → Rule A → Type 0
 Shortens {A} r = (tokens rest : List PlacedLexeme) (x : A) → reads r tokens ≡ Read x rest → length rest < length tokens
-
-pub public_name_is_shorter : Shortens public_name
-unfolding marks rules name public_name
-public_name_is_shorter = reads_shorten public_name refl refl
 
 pub expression_is_shorter : (scope : Scope) → Shortens (e.whole_expression scope)
 unfolding marks rules e.whole_expression name e.behind_dot e.behind_public e.column e.operation_or_column e.old_column e.new_column e.named e.word_or_named e.plain_atom e.atom e.signed e.product e.sum_sign e.summand e.sum e.comparison_sign e.comparison e.negated e.null_or_distinct e.is_test e.test e.negation e.conjunction e.expression

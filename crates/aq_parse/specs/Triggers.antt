@@ -1,79 +1,14 @@
 -- Parts of the rules of triggers that have a function of their own.
-use Rattle.std.specs.Prelude.{List, [], ◌∷◌, Option, codes}
-use Rattle.aq_base.specs.Names.{Text as Bytes}
-use Rattle.aq_base.specs.declared.body.BodyStatement.{BodyStatement}
-use Rattle.aq_base.specs.declared.trigger.TriggerEvent.{TriggerEvent}
-use Rattle.aq_base.specs.declared.trigger.Transition.{Transition}
-use Rattle.aq_base.specs.declared.trigger.TransitionTable.{TransitionTable}
-use Rattle.aq_base.specs.declared.trigger.Transition.TheVariants.{Old, New}
-use Rattle.aq_base.specs.declared.trigger.Each.{Each}
-use Rattle.aq_base.specs.declared.trigger.Each.TheVariants.{Row, Statement}
-use Rattle.aq_parse.specs.declared.triggers.Watch.{Watch}
-use Rattle.aq_parse.specs.declared.triggers.Action.{Action}
+use Rattle.std.specs.Prelude.{[], ◌∷◌, codes}
 use Rattle.aq_grammar.specs.Terminals.{Keyword}
-use Rattle.aq_grammar.specs.Rules.{Rule, Both, Either, Differing}
-use Rattle.aq_grammar.specs.Forms.{word, ◌▸◌, ◌◂◌, says, optional, name, public_name}
-use Rattle.aq_grammar.specs.Bodies.{code}
-use Rattle.aq_grammar.specs.Triggers.{no_arguments, language, insert_event, delete_event, update_event, with_events, last_event, more_events, table_as, transitions_of, events, for_each, Watched, Fired}
-use Rattle.aq_parse.specs.declared.triggers.EventKind.{EventKind}
-use Rattle.aq_parse.specs.declared.triggers.EventKind.TheVariants.{Insert, Delete, Update}
-
--- a function's name, with what it takes and gives
-abbrev pub function_head : Rule Bytes
-function_head = public_name ◂ no_arguments ◂ word (codes "returns") ◂ word (codes "trigger")
-
--- a function's code, with its language before or behind it
-abbrev pub function_body : Rule (List BodyStatement)
-function_body = Either (Keyword (codes "language") ∷ []) (language ▸ word (codes "as") ▸ code) (word (codes "as") ▸ code ◂ language)
-
-abbrev pub event_word : EventKind → Bytes
-event_word Insert = codes "insert"
-event_word Delete = codes "delete"
-event_word Update = codes "update"
-
-abbrev pub event_rule : EventKind → Rule TriggerEvent
-event_rule Insert = insert_event
-event_rule Delete = delete_event
-event_rule Update = update_event
-
--- an event, and perhaps another
-abbrev pub two_events : Rule TriggerEvent → Rule TriggerEvent → Rule (List TriggerEvent)
-two_events first second = Both with_events first (last_event second)
-
--- an event, and perhaps more out of two others
-abbrev pub events_from : Rule TriggerEvent → Bytes → Rule TriggerEvent → Rule TriggerEvent → Rule (List TriggerEvent)
-events_from first text second third = Both with_events first (more_events text second third)
-
-abbrev pub version_word : Transition → Bytes
-version_word Old = codes "old"
-version_word New = codes "new"
-
--- a transition table, and perhaps a second with another name
-abbrev pub tables_from : Transition → Transition → Rule (List TransitionTable)
-tables_from first second =
-    Differing (transitions_of first second) (table_as (version_word first) ▸ name) (λ text. text) (Keyword (version_word second) ∷ [])
-    (table_as (version_word second))
-
--- EACH, where it is said
-abbrev pub each : Rule (Option (Unit {0}))
-each = optional (Keyword (codes "each") ∷ []) (word (codes "each"))
-
-abbrev pub row_or_statement : Rule Each
-row_or_statement = Either (Keyword (codes "row") ∷ []) (says (codes "row") Row) (says (codes "statement") Statement)
-
-abbrev pub for_each_row : Rule (Unit {0})
-for_each_row = for_each (word (codes "row"))
+use Rattle.aq_grammar.specs.Rules.{Rule, Either}
+use Rattle.aq_grammar.specs.Forms.{word}
+use Rattle.aq_grammar.specs.Triggers.{Fired}
+use Rattle.aq_parse.specs.declared.triggers.Action.{Action}
 
 abbrev pub function_word : Rule (Unit {0})
 function_word = Either (Keyword (codes "function") ∷ []) (word (codes "function")) (word (codes "procedure"))
 
--- what an AFTER trigger watches
-abbrev pub watched_after : Rule Watched
-watched_after = word (codes "after") ▸ Both (λ events table. record { events = events; table = table }) events (word (codes "on") ▸ public_name)
-
--- how the grammar sees what a function of the parser returned
-abbrev pub watched_view : Watch → Watched
-watched_view watched = record { events = watched.events; table = watched.table }
-
+-- how the grammar sees what a function returned
 abbrev pub fired_view : Action → Fired
 fired_view fired = record { condition = fired.condition; function = fired.function }

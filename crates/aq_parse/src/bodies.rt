@@ -10,12 +10,14 @@ ghost use Rattle.aq_parse.specs.Bodies.{returned, insert_in_body, update_in_body
 
 use crate::delete::delete;
 use crate::insert::insert;
-use crate::modes::set_constraints;
 use crate::update::update;
-use crate::whole::whole_expression;
 use aq_base::{BodyStatement, ElseIf, Expr, List, Returned};
-use aq_grammar::{Read, Scope, is_one_of, is_symbol, is_word, message, refuse_in_code, sign, word};
+use aq_grammar::{
+    Read, Scope, is_one_of, is_symbol, is_word, message, refuse_in_code, says, sign, word,
+};
 use aq_lex::{Lexed, Symbol};
+use aq_parse_expressions::whole_expression;
+use aq_parse_transactions::set_constraints;
 use std::alloc::Global;
 
 /// `RAISE EXCEPTION text`
@@ -34,14 +36,11 @@ fn returned<'a>(tokens: &Lexed<'a>) -> Read<'a, Returned>
     ensures { Gives (λ x. x) result (reads returned tokens.now) }
 {
     if is_word(tokens, b"null") {
-        let ((), rest) = word(tokens, b"null")?;
-        Ok((Returned::Null, rest))
+        says(tokens, b"null", Returned::Null)
     } else if is_word(tokens, b"new") {
-        let ((), rest) = word(tokens, b"new")?;
-        Ok((Returned::New, rest))
+        says(tokens, b"new", Returned::New)
     } else {
-        let ((), rest) = word(tokens, b"old")?;
-        Ok((Returned::Old, rest))
+        says(tokens, b"old", Returned::Old)
     }
 }
 

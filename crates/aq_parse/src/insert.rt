@@ -1,33 +1,17 @@
 //! INSERT (PostgreSQL manual, page INSERT).
 
-ghost use Rattle.aq_lex.specs.declared.token.Symbol.TheVariants.{OpenParen, CloseParen};
 ghost use Rattle.aq_grammar.specs.Nonterminals.{reads};
-ghost use Rattle.aq_grammar.specs.Changes.{row_values, source, column_list, insert};
+ghost use Rattle.aq_grammar.specs.Changes.{row_values, source, insert};
 ghost use Rattle.aq_grammar.specs.Steps.{Gives};
 
 use crate::rows::{from_table, given};
-use crate::whole::whole_expression;
 use aq_base::{Expr, Given, Insert, List, Source, TextVal};
 use aq_grammar::{
-    Form, Read, Scope, is_symbol, is_word, listed, names, public_name, refuse_behind_insert, sign,
-    word,
+    Form, Read, Scope, column_list, is_word, listed, public_name, refuse_behind_insert, sign, word,
 };
 use aq_lex::{Lexed, Symbol};
+use aq_parse_expressions::whole_expression;
 use std::alloc::Global;
-
-/// `(name, name)`, which may be left out.
-#[tactic(auto, unfolding(aq_grammar::specs::Changes::column_list))]
-pub(crate) fn column_list<'a>(alloc: Global, tokens: &Lexed<'a>) -> Read<'a, Option<List<TextVal>>>
-    ensures { Gives (λ x. x) result (reads column_list tokens.now) }
-{
-    if !is_symbol(tokens, Symbol::OpenParen) {
-        return Ok((None, tokens.copied()));
-    }
-    let ((), rest) = sign(tokens, Symbol::OpenParen)?;
-    let (columns, rest) = names(alloc, &rest)?;
-    let ((), rest) = sign(&rest, Symbol::CloseParen)?;
-    Ok((Some(columns), rest))
-}
 
 #[derive(Drop)]
 struct GivenForm {

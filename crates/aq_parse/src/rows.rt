@@ -4,11 +4,10 @@ ghost use Rattle.aq_grammar.specs.Nonterminals.{reads};
 ghost use Rattle.aq_grammar.specs.Changes.{where_part, given, from_table};
 ghost use Rattle.aq_grammar.specs.Steps.{Gives};
 
-use crate::whole::whole_expression;
-use crate::words::says;
 use aq_base::{Expr, Given, TextVal};
-use aq_grammar::{Read, Scope, is_word, public_name, refuse_joins, word};
+use aq_grammar::{Read, Scope, is_word, public_name, refuse_joins, says, word};
 use aq_lex::Lexed;
+use aq_parse_expressions::whole_expression;
 use std::alloc::Global;
 
 /// `WHERE expression`, which may be left out.

@@ -5,10 +5,10 @@ ghost use Rattle.aq_grammar.specs.Changes.{columns, lock_mode, lock, select};
 ghost use Rattle.aq_grammar.specs.Steps.{Gives};
 
 use crate::rows::where_part;
-use crate::words::says;
 use aq_base::{Columns, LockMode, Select};
 use aq_grammar::{
-    Read, Scope, is_symbol, is_word, names, public_name, refuse_joins, refuse_no_wait, sign, word,
+    Read, Scope, is_symbol, is_word, names, public_name, refuse_joins, refuse_no_wait, says, sign,
+    word,
 };
 use aq_lex::{Lexed, Symbol};
 use std::alloc::Global;

@@ -6,22 +6,22 @@ ghost use Rattle.aq_grammar.specs.Steps.{Gives};
 ghost use Rattle.aq_parse.specs.Statements.{insert_statement, update_statement, delete_statement, select_statement, set_statement, statement_of};
 
 use crate::delete::delete;
+use crate::functions::create_function;
 use crate::insert::insert;
-use crate::modes::set_constraints;
 use crate::select::select;
-use crate::tables::{alter_table, create_table};
-use crate::transactions::{
-    abort, begin, commit, end, release, rollback, savepoint, start_transaction,
-};
-use crate::triggers::{create_constraint_trigger, create_function, create_trigger};
+use crate::triggers::{create_constraint_trigger, create_trigger};
 use crate::update::update;
 use aq_base::Statement;
 use aq_grammar::{Read, Scope, is_word, refuse_in_session, refuse_in_setup, word};
 use aq_lex::Lexed;
+use aq_parse_tables::{alter_table, create_table};
+use aq_parse_transactions::{
+    abort, begin, commit, end, release, rollback, savepoint, set_constraints, start_transaction,
+};
 use std::alloc::Global;
 
 /// Where a statement stands.
-#[derive(Clone, Copy, Debug, PartialEq, Eq)]
+#[derive(Clone, Copy)]
 pub enum Place {
     /// In the setup section.
     Setup,

@@ -1,96 +1,13 @@
 //! Names and texts between quotes, and names that need none.
 
 ghost use Rattle.std.specs.Prelude.{◌≡◌, ◌++◌, ◌∷◌, [], ◌||◌, ◌==◌, OnOk, if◌then◌else◌};
-ghost use Rattle.std.specs.List.{list_all, list_any};
+ghost use Rattle.std.specs.List.{list_all};
 ghost use Rattle.std.specs.Char.{to_ascii_lowercase};
-ghost use Rattle.aq_base.specs.Names.{is_reserved, same_text};
 ghost use Rattle.aq_lex.specs.Tokens.{begins_word, goes_on_in_word, is_word, quoted};
 ghost use Rattle.aq_texts.specs.Written.{is_bare, name_text};
 
 use aq_base::{NoMemory, TextVal};
-
-/// Words that are no names (PostgreSQL manual, appendix "SQL Key Words").
-const RESERVED_WORDS: [&str; 67] = [
-    "add",
-    "after",
-    "all",
-    "alter",
-    "and",
-    "as",
-    "begin",
-    "by",
-    "cascade",
-    "check",
-    "commit",
-    "constraint",
-    "constraints",
-    "create",
-    "default",
-    "deferrable",
-    "deferred",
-    "delete",
-    "distinct",
-    "each",
-    "else",
-    "elsif",
-    "end",
-    "execute",
-    "false",
-    "for",
-    "foreign",
-    "from",
-    "function",
-    "if",
-    "immediate",
-    "initially",
-    "insert",
-    "into",
-    "is",
-    "key",
-    "match",
-    "new",
-    "not",
-    "null",
-    "old",
-    "on",
-    "only",
-    "or",
-    "primary",
-    "raise",
-    "references",
-    "referencing",
-    "release",
-    "restrict",
-    "return",
-    "rollback",
-    "row",
-    "savepoint",
-    "select",
-    "set",
-    "table",
-    "tg_op",
-    "then",
-    "to",
-    "trigger",
-    "true",
-    "unique",
-    "update",
-    "values",
-    "when",
-    "where",
-];
-
-fn is_one_of(name: &[u8], words: &[&str]) -> bool
-    ensures { result ≡ list_any (λ word. same_text name.now word.now) words.now }
-{
-    words.iter().any(|word| name == word.as_bytes())
-}
-
-fn is_reserved(name: &[u8]) -> bool
-    ensures { result ≡ is_reserved name.now }
-{
-    is_one_of(name, &RESERVED_WORDS)
-}
+use aq_lex::is_reserved;
 
 fn begins_word(byte: u8) -> bool
     ensures { result ≡ begins_word byte }

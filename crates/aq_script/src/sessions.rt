@@ -8,8 +8,10 @@ ghost use Rattle.aq_script.specs.Sections.{session_limit, refused_names, refused
 ghost use Rattle.aq_script.specs.Parsing.{read_name, read_session, read_all_sessions};
 
 use crate::section::statements;
-use aq_base::{Code, List, NoMemory, SessionText, SqlFault, TextVal};
-use aq_grammar::{Read, ReadFault, heading, is_heading, is_word, passes_limit, plain_name};
+use aq_base::{List, NoMemory, SessionText, SqlFault, TextVal};
+use aq_grammar::{
+    Read, ReadFault, heading, is_heading, is_word, naming_fault, passes_limit, plain_name,
+};
 use aq_lex::{Directive, Lexed};
 use aq_parse::Place;
 use std::alloc::Global;
@@ -21,14 +23,7 @@ const MAX_SESSIONS: usize = 16;
 fn repeated_name(alloc: Global, name: &TextVal) -> Result<SqlFault, NoMemory>
     ensures { IfOk result (λ fault. fault ≡ repeated_name name.now) }
 {
-    let mut text = String::from_str(alloc, "session \"")?;
-    text.push_str(name.as_str())?;
-    text.push_str("\" already exists")?;
-    Ok(SqlFault {
-        code: Code(*b"42710"),
-        text: TextVal::from_string(text),
-        detail: None,
-    })
+    naming_fault(alloc, b"42710", "session ", name, " already exists")
 }
 
 /// No session has the name of one before it.

@@ -1,81 +1,11 @@
 //! Names and reserved words.
 
 ghost use Rattle.std.specs.Prelude.{◌≡◌};
-ghost use Rattle.std.specs.List.{list_all, list_any};
-ghost use Rattle.aq_base.specs.Names.{same_text, is_between, begins_word, goes_on_in_word, is_word, is_reserved, is_short, is_name};
+ghost use Rattle.std.specs.List.{list_all};
+ghost use Rattle.aq_base.specs.Names.{same_text, is_between, begins_word, goes_on_in_word, is_word, is_short, is_name};
 
 use aq_base::TextVal;
-
-/// Words that are no names (PostgreSQL manual, appendix "SQL Key Words").
-const RESERVED_WORDS: [&str; 67] = [
-    "add",
-    "after",
-    "all",
-    "alter",
-    "and",
-    "as",
-    "begin",
-    "by",
-    "cascade",
-    "check",
-    "commit",
-    "constraint",
-    "constraints",
-    "create",
-    "default",
-    "deferrable",
-    "deferred",
-    "delete",
-    "distinct",
-    "each",
-    "else",
-    "elsif",
-    "end",
-    "execute",
-    "false",
-    "for",
-    "foreign",
-    "from",
-    "function",
-    "if",
-    "immediate",
-    "initially",
-    "insert",
-    "into",
-    "is",
-    "key",
-    "match",
-    "new",
-    "not",
-    "null",
-    "old",
-    "on",
-    "only",
-    "or",
-    "primary",
-    "raise",
-    "references",
-    "referencing",
-    "release",
-    "restrict",
-    "return",
-    "rollback",
-    "row",
-    "savepoint",
-    "select",
-    "set",
-    "table",
-    "tg_op",
-    "then",
-    "to",
-    "trigger",
-    "true",
-    "unique",
-    "update",
-    "values",
-    "when",
-    "where",
-];
+use aq_lex::is_reserved;
 
 fn begins_word(byte: u8) -> bool
     ensures { result ≡ begins_word byte }
@@ -121,18 +51,6 @@ fn is_short(text: &[u8]) -> bool
     ensures { result ≡ is_short text.now }
 {
     text.len() <= 63
-}
-
-fn is_among(text: &[u8], words: &[&str]) -> bool
-    ensures { result ≡ list_any (λ word. same_text text.now word.now) words.now }
-{
-    words.iter().any(|word| same_text(text, word.as_bytes()))
-}
-
-fn is_reserved(text: &[u8]) -> bool
-    ensures { result ≡ is_reserved text.now }
-{
-    is_among(text, &RESERVED_WORDS)
 }
 
 /// Whether a text is an unreserved word of 63 bytes at the most.

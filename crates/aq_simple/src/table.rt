@@ -5,7 +5,9 @@ ghost use Rattle.aq_simple.specs.Forms.{is_integer, is_simple_match, is_no_actio
 ghost use Rattle.aq_simple.specs.Steps.{Gives};
 
 use crate::fault::FormFault;
-use aq_base::{Action, ColumnConstraint, Copies, CreateTable, Kind, List, Match, Reference, TableItem, TextVal};
+use aq_base::{
+    Action, ColumnConstraint, Copies, CreateTable, Kind, List, Match, Reference, TableItem, TextVal,
+};
 use aq_first_base::{SimpleColumn, SimpleConstraint, SimpleStatement};
 use std::alloc::Global;
 

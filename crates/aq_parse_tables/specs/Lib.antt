@@ -1,0 +1,3 @@
+pub mod ShorterItems
+pub mod Targets
+pub mod ColumnConstraints
