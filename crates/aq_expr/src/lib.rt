@@ -13,6 +13,3 @@ pub use arithmetic::store;
 pub use env::Env;
 pub use evaluation::{eval, truth};
 pub use fault::EvalFault;
-
-#[cfg(test)]
-mod tests;

@@ -1,65 +1,76 @@
 //! Names of tables read, and statements refused in a setup.
 
-use aq_base::TextVal;
+use crate::table::{Subject, first_wrong};
+use aq_base::NoMemory;
 use aq_grammar::{ReadFault, public_name, refuse_in_setup};
 use aq_lex::{Lexed, lex};
 use std::alloc::Global;
-use std::test::*;
+use std::test::Fail;
 
-/// The name of a table with which bytes begin, and how many tokens stand behind it.
-fn table_of(alloc: Global, bytes: &[u8]) -> Option<(TextVal, usize)> {
-    match lex(alloc, bytes) {
-        Ok(tokens) => match public_name(alloc, &Lexed::new(bytes, tokens.as_slice())) {
-            Ok((name, rest)) => Some((name, rest.len())),
-            Err(_) => None,
-        },
-        Err(_) => None,
-    }
-}
+// The name of a table with which bytes begin, and how many tokens stand behind it.
+struct Names;
 
-/// Whether a statement that begins with bytes is refused in the setup, with this text.
-fn is_refused(alloc: Global, bytes: &[u8], text: &str) -> bool {
-    match lex(alloc, bytes) {
-        Ok(tokens) => match refuse_in_setup(alloc, &Lexed::new(bytes, tokens.as_slice())) {
-            Err(ReadFault::Refused { left, fault }) => left == tokens.len()
-                && fault.text.as_str() == text,
-            _ => false,
-        },
-        Err(_) => false,
-    }
-}
-
-#[test]
-fn reads_names_of_tables(rt: HostRuntime) {
-    for (bytes, name, left) in [
-        (b"t".as_slice(), "t", 0usize),
-        (b"public.T (", "t", 1),
-        (b"\"Select\"", "Select", 0),
-    ] {
-        match table_of(rt.alloc(), bytes) {
-            Some((found, behind)) => {
-                assert_eq!(rt; found.as_str(), name);
-                assert_eq!(rt; behind, left, "{name}");
-            }
-            None => assert!(rt; false, "{name}"),
+impl Subject for Names {
+    fn answer(&self, alloc: Global, question: &str) -> Result<String, NoMemory> {
+        let Ok(tokens) = lex(alloc, question.as_bytes()) else {
+            return "no tokens".to_string(alloc);
+        };
+        match public_name(alloc, &Lexed::new(question.as_bytes(), tokens.as_slice())) {
+            Ok((name, rest)) => format!(in alloc; "{} {}", name.as_str(), rest.len()),
+            Err(_) => "none".to_string(alloc),
         }
     }
-    for bytes in [b"select".as_slice(), b"1", b"'t'", b""] {
-        assert!(rt; table_of(rt.alloc(), bytes).is_none());
+}
+
+const NAMES: &str = "\
+==== t
+---- t 0
+==== public.T (
+---- t 1
+==== \"Select\"
+---- Select 0
+==== select
+---- none
+==== 1
+---- none
+==== 't'
+---- none
+==== \n\
+---- none
+";
+
+// How a statement that begins with bytes is refused in the setup: the text, and the token that is refused, counted from 0.
+struct Refused;
+
+impl Subject for Refused {
+    fn answer(&self, alloc: Global, question: &str) -> Result<String, NoMemory> {
+        let Ok(tokens) = lex(alloc, question.as_bytes()) else {
+            return "no tokens".to_string(alloc);
+        };
+        match refuse_in_setup(alloc, &Lexed::new(question.as_bytes(), tokens.as_slice())) {
+            Err(ReadFault::Refused { left, fault }) => {
+                let at = tokens.len().saturating_sub(left);
+                format!(in alloc; "at {at}: {}", fault.text.as_str())
+            }
+            _ => "not refused".to_string(alloc),
+        }
     }
 }
 
+const REFUSED: &str = "\
+==== ALTER TABLE ONLY public.t DISABLE
+---- at 0: enabling and disabling triggers is not supported
+==== CREATE VIEW
+---- at 0: views are not supported
+==== TRUNCATE t
+---- at 0: TRUNCATE is not supported
+==== INSERT
+---- at 0: data statements in setup are not supported
+";
+
 #[test]
-fn refuses_in_setup(rt: HostRuntime) {
-    for (bytes, text) in [
-        (
-            b"ALTER TABLE ONLY public.t DISABLE".as_slice(),
-            "enabling and disabling triggers is not supported",
-        ),
-        (b"CREATE VIEW", "views are not supported"),
-        (b"TRUNCATE t", "TRUNCATE is not supported"),
-        (b"INSERT", "data statements in setup are not supported"),
-    ] {
-        assert!(rt; is_refused(rt.alloc(), bytes, text), "{text}");
-    }
+fn names_and_refused_statements(rt: HostRuntime) -> Result<(), Fail> {
+    assert_eq!(rt; first_wrong(rt.alloc(), &Names, NAMES)?, None);
+    assert_eq!(rt; first_wrong(rt.alloc(), &Refused, REFUSED)?, None);
+    Ok(())
 }

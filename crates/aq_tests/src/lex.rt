@@ -1,214 +1,279 @@
-//! Bytes cut into tokens, and bytes at which no token begins.
+//! Bytes cut into tokens, bytes at which no token begins, and what is read of tokens.
 
-use aq_lex::TokenKind::{Directive as Section, Integer, Symbol as Sign, Text, Word};
-use aq_lex::*;
+use crate::table::{Subject, first_wrong};
+use aq_base::NoMemory;
+use aq_lex::{Directive, LexFault, Lexed, Symbol, Token, TokenKind, lex, line_at};
 use std::alloc::Global;
-use std::test::*;
+use std::test::Fail;
 
-const NAME: TokenKind = TokenKind::QuotedName;
+// A `~` stands for a byte that no UTF-8 has.
+fn bytes_of(alloc: Global, text: &str) -> Result<Vec<u8>, NoMemory> {
+    let mut bytes = Vec::new(alloc);
+    for byte in text.bytes() {
+        bytes.push(if byte == b'~' { 0xFF } else { byte })?;
+    }
+    Ok(bytes)
+}
 
-/// Whether bytes are these tokens.
-fn are(alloc: Global, bytes: &[u8], expected: &[(TokenKind, usize, usize)]) -> bool {
-    match lex(alloc, bytes) {
-        Ok(tokens) => {
-            tokens.len() == expected.len()
-                && tokens.as_slice().iter().zip(expected).all(|(token, (kind, from, to))| {
-                    token.kind == *kind && token.from == *from && token.to == *to
-                })
+fn symbol_name(symbol: Symbol) -> &'static str {
+    match symbol {
+        Symbol::OpenParen => "open",
+        Symbol::CloseParen => "close",
+        Symbol::Comma => "comma",
+        Symbol::Semicolon => "semicolon",
+        Symbol::Dot => "dot",
+        Symbol::Plus => "plus",
+        Symbol::Minus => "minus",
+        Symbol::Times => "times",
+        Symbol::Equal => "equal",
+        Symbol::Unequal => "unequal",
+        Symbol::Less => "less",
+        Symbol::AtMost => "at most",
+        Symbol::Greater => "greater",
+        Symbol::AtLeast => "at least",
+        Symbol::DollarQuote => "dollars",
+    }
+}
+
+fn kind_name(kind: TokenKind) -> &'static str {
+    match kind {
+        TokenKind::Word => "word",
+        TokenKind::QuotedName => "name",
+        TokenKind::Integer => "integer",
+        TokenKind::Text => "text",
+        TokenKind::Symbol(symbol) => symbol_name(symbol),
+        TokenKind::Directive(Directive::Setup) => "setup",
+        TokenKind::Directive(Directive::Session) => "session",
+        TokenKind::Directive(Directive::Schedule) => "schedule",
+    }
+}
+
+fn tokens_told(alloc: Global, tokens: &[Token]) -> Result<String, NoMemory> {
+    let mut told = String::new(alloc);
+    for token in tokens {
+        let kind = kind_name(token.kind);
+        let (from, to) = (token.from, token.to);
+        told.push_str(format!(in alloc; "{kind} {from} {to};")?.as_str())?;
+    }
+    Ok(told)
+}
+
+// The tokens of bytes, each with the places where it begins and ends.
+struct Tokens;
+
+impl Subject for Tokens {
+    fn answer(&self, alloc: Global, question: &str) -> Result<String, NoMemory> {
+        match lex(alloc, bytes_of(alloc, question)?.as_slice()) {
+            Ok(tokens) => tokens_told(alloc, tokens.as_slice()),
+            Err(LexFault::BadToken { at }) => format!(in alloc; "refused at {at}"),
+            Err(LexFault::NoMemory) => Err(NoMemory),
         }
-        Err(_) => false,
     }
 }
 
-/// The place where no token begins.
-fn refused(alloc: Global, bytes: &[u8]) -> Option<usize> {
-    match lex(alloc, bytes) {
-        Err(LexFault::BadToken { at }) => Some(at),
-        _ => None,
-    }
-}
+const TOKENS: &str = "\
+==== 
+---- 
+====  \t\r\n
+---- 
+==== abc
+---- word 0 3;
+==== _a1$ B
+---- word 0 4;word 5 6;
+==== END$$
+---- word 0 5;
+==== 1a
+---- integer 0 1;word 1 2;
+==== a1
+---- word 0 2;
+==== 99999999999999999999
+---- integer 0 20;
+==== ''
+---- text 0 2;
+==== ''''
+---- text 0 4;
+==== 'a''b'c
+---- text 0 6;word 6 7;
+==== 'a\nb'
+---- text 0 5;
+==== 'é'
+---- text 0 4;
+==== \"\"\"\"
+---- name 0 4;
+==== \"a\"\"b\"
+---- name 0 6;
+==== \"a\"'b'
+---- name 0 3;text 3 6;
+==== (),;.
+---- open 0 1;close 1 2;comma 2 3;semicolon 3 4;dot 4 5;
+==== +-*=
+---- plus 0 1;minus 1 2;times 2 3;equal 3 4;
+==== <=>=<>!=
+---- at most 0 2;at least 2 4;unequal 4 6;unequal 6 8;
+==== < >$$
+---- less 0 1;greater 2 3;dollars 3 5;
+==== -- a
+---- 
+==== a--b\nc
+---- word 0 1;word 5 6;
+==== \\setup--\n \\schedule
+---- setup 0 6;schedule 10 19;
+==== \\sessiona
+---- session 0 8;word 8 9;
+==== a ?
+---- refused at 2
+==== a $ b
+---- refused at 2
+==== $$$
+---- refused at 2
+==== !
+---- refused at 0
+==== é
+---- refused at 0
+==== a\n'b
+---- refused at 2
+==== a ''' 
+---- refused at 2
+====  \"\"
+---- refused at 1
+==== '~'
+---- refused at 0
+==== \"~\"
+---- refused at 0
+==== 1 --~\n2
+---- refused at 2
+==== \\Setup
+---- refused at 0
+==== a \\setup
+---- refused at 2
+==== 'a\n' \\setup
+---- refused at 5
+==== \\setup\\session
+---- refused at 6
+";
 
-#[test]
-fn finds_words_and_integers(rt: HostRuntime) {
-    for (bytes, expected) in [
-        (b"".as_slice(), [].as_slice()),
-        (b" \t\r\n", &[]),
-        (b"abc", &[(Word, 0, 3)]),
-        (b"_a1$ B", &[(Word, 0, 4), (Word, 5, 6)]),
-        (b"END$$", &[(Word, 0, 5)]),
-        (b"1a", &[(Integer, 0, 1), (Word, 1, 2)]),
-        (b"a1", &[(Word, 0, 2)]),
-        (b"99999999999999999999", &[(Integer, 0, 20)]),
+// What the first token is: of some words, symbols and directives.
+fn names_of(alloc: Global, lexed: &Lexed) -> Result<String, NoMemory> {
+    let mut names = String::new(alloc);
+    for word in ["ab", "Ab", "abc", "a", ""] {
+        if lexed.is_word(word.as_bytes()) {
+            names.push_str(word)?;
+            names.push('.')?;
+        }
+    }
+    for (symbol, name) in [(Symbol::Semicolon, ";."), (Symbol::Comma, ",.")] {
+        if lexed.is_symbol(symbol) {
+            names.push_str(name)?;
+        }
+    }
+    for (directive, name) in [
+        (Directive::Setup, "setup."),
+        (Directive::Session, "session."),
     ] {
-        assert!(rt; are(rt.alloc(), bytes, expected));
+        if lexed.is_directive(directive) {
+            names.push_str(name)?;
+        }
+    }
+    Ok(names)
+}
+
+// A line on a first token, and the count of the tokens from it on.
+fn token_told(alloc: Global, lexed: &Lexed) -> Result<String, NoMemory> {
+    let count = lexed.len();
+    let kind = match lexed.kind() {
+        Some(kind) => kind_name(kind),
+        None => "none",
+    };
+    let (line, length, integer) = (lexed.line(), lexed.text_len(), lexed.integer());
+    let names = names_of(alloc, lexed)?;
+    match lexed.text(alloc)? {
+        Some(text) => {
+            let text = text.as_str();
+            format!(in alloc; "{count} {kind} {line:?} {length:?} {integer:?} {names} {text}\n")
+        }
+        None => format!(in alloc;
+            "{count} {kind} {line:?} {length:?} {integer:?} {names} no text\n"
+        ),
     }
 }
 
-#[test]
-fn finds_literals(rt: HostRuntime) {
-    for (bytes, expected) in [
-        (b"''".as_slice(), [(Text, 0, 2)].as_slice()),
-        (b"''''", &[(Text, 0, 4)]),
-        (b"'a''b'c", &[(Text, 0, 6), (Word, 6, 7)]),
-        (b"'a\nb'", &[(Text, 0, 5)]),
-        (b"'\xC3\xA9'", &[(Text, 0, 4)]),
-        (b"\"\"\"\"", &[(NAME, 0, 4)]),
-        (b"\"a\"\"b\"", &[(NAME, 0, 6)]),
-        (b"\"a\"'b'", &[(NAME, 0, 3), (Text, 3, 6)]),
-    ] {
-        assert!(rt; are(rt.alloc(), bytes, expected));
+// What is read of each token, and behind the last.
+struct Reading;
+
+impl Subject for Reading {
+    fn answer(&self, alloc: Global, question: &str) -> Result<String, NoMemory> {
+        let Ok(tokens) = lex(alloc, question.as_bytes()) else {
+            return "refused".to_string(alloc);
+        };
+        let mut told = String::new(alloc);
+        let mut lexed = Lexed::new(question.as_bytes(), tokens.as_slice());
+        for _ in tokens.as_slice() {
+            if lexed.is_empty() {
+                told.push_str("too early an end\n")?;
+            }
+            told.push_str(token_told(alloc, &lexed)?.as_str())?;
+            lexed = lexed.copied().rest();
+        }
+        if lexed.is_empty() && lexed.rest().is_empty() {
+            told.push_str(token_told(alloc, &lexed)?.as_str())?;
+        }
+        Ok(told)
     }
 }
 
-#[test]
-fn finds_symbols(rt: HostRuntime) {
-    for (bytes, expected) in [
-        (
-            b"(),;.".as_slice(),
-            [
-                (Sign(Symbol::OpenParen), 0, 1),
-                (Sign(Symbol::CloseParen), 1, 2),
-                (Sign(Symbol::Comma), 2, 3),
-                (Sign(Symbol::Semicolon), 3, 4),
-                (Sign(Symbol::Dot), 4, 5),
-            ]
-            .as_slice(),
-        ),
-        (
-            b"+-*=",
-            &[
-                (Sign(Symbol::Plus), 0, 1),
-                (Sign(Symbol::Minus), 1, 2),
-                (Sign(Symbol::Times), 2, 3),
-                (Sign(Symbol::Equal), 3, 4),
-            ],
-        ),
-        (
-            b"<=>=<>!=",
-            &[
-                (Sign(Symbol::AtMost), 0, 2),
-                (Sign(Symbol::AtLeast), 2, 4),
-                (Sign(Symbol::Unequal), 4, 6),
-                (Sign(Symbol::Unequal), 6, 8),
-            ],
-        ),
-        (
-            b"< >$$",
-            &[
-                (Sign(Symbol::Less), 0, 1),
-                (Sign(Symbol::Greater), 2, 3),
-                (Sign(Symbol::DollarQuote), 3, 5),
-            ],
-        ),
-    ] {
-        assert!(rt; are(rt.alloc(), bytes, expected));
+const READING: &str = "\
+==== Ab
+\"C\"\"d\"
+
+'' 'x''''y' 007 9223372036854775807 9223372036854775808 ;
+---- 8 word Some(1) Some(2) None ab. ab
+7 name Some(2) Some(3) None  C\"d
+6 text Some(4) Some(0) None  \n\
+5 text Some(4) Some(4) None  x''y
+4 integer Some(4) None Some(7)  no text
+3 integer Some(4) None Some(9223372036854775807)  no text
+2 integer Some(4) None None  no text
+1 semicolon Some(4) None None ;. no text
+0 none None None None  no text
+
+==== \n\\session a
+---- 2 session Some(2) None None session. no text
+1 word Some(2) Some(1) None a. a
+0 none None None None  no text
+
+";
+
+// The line of a place in bytes.
+struct Lines;
+
+impl Subject for Lines {
+    fn answer(&self, alloc: Global, question: &str) -> Result<String, NoMemory> {
+        match question.parse::<usize>() {
+            Ok(at) => format!(in alloc; "{}", line_at(b"a\n\nb", at)),
+            Err(_) => "no place".to_string(alloc),
+        }
     }
 }
 
-#[test]
-fn finds_comments_and_directives(rt: HostRuntime) {
-    for (bytes, expected) in [
-        (b"-- a".as_slice(), [].as_slice()),
-        (b"a--b\nc", &[(Word, 0, 1), (Word, 5, 6)]),
-        (
-            b"\\setup--\n \\schedule",
-            &[
-                (Section(Directive::Setup), 0, 6),
-                (Section(Directive::Schedule), 10, 19),
-            ],
-        ),
-        (
-            b"\\sessiona",
-            &[(Section(Directive::Session), 0, 8), (Word, 8, 9)],
-        ),
-    ] {
-        assert!(rt; are(rt.alloc(), bytes, expected));
-    }
-}
+const LINES: &str = "\
+==== 0
+---- 1
+==== 1
+---- 1
+==== 2
+---- 2
+==== 3
+---- 3
+==== 4
+---- 3
+==== 9
+---- 3
+";
 
 #[test]
-fn refuses_bytes(rt: HostRuntime) {
-    for (bytes, at) in [
-        (b"a ?".as_slice(), 2),
-        (b"a $ b", 2),
-        (b"$$$", 2),
-        (b"!", 0),
-        (b"\xC3\xA9", 0),
-        (b"a\n'b", 2),
-        (b"a ''' ", 2),
-        (b" \"\"", 1),
-        (b"'\xFF'", 0),
-        (b"\"\xFF\"", 0),
-        (b"1 --\xFF\n2", 2),
-        (b"\\Setup", 0),
-        (b"a \\setup", 2),
-        (b"'a\n' \\setup", 5),
-        (b"\\setup\\session", 6),
-    ] {
-        assert_eq!(rt; refused(rt.alloc(), bytes), Some(at));
-    }
-}
-
-#[test]
-fn reads_values(rt: HostRuntime) -> Result<(), Fail> {
-    let bytes = b"Ab\n\"C\"\"d\"\n\n'' 'x''''y' 007 9223372036854775807 9223372036854775808 ;";
-    let tokens = lex(rt.alloc(), bytes).ok().ok_or("refused")?;
-    let word = Lexed::new(bytes, tokens.as_slice());
-    assert!(rt; word.is_word(b"ab") && !word.is_word(b"Ab") && !word.is_word(b"abc"));
-    assert_eq!(rt;
-        (word.len(), word.line(), word.text_len()),
-        (8, Some(1), Some(2))
-    );
-    let name = word.rest();
-    let text = name.text(rt.alloc())?.ok_or("no text")?;
-    assert!(rt; text.as_str() == "C\"d");
-    assert_eq!(rt;
-        (name.kind(), name.line(), name.text_len()),
-        (Some(NAME), Some(2), Some(3))
-    );
-    let empty = name.rest();
-    assert_eq!(rt;
-        (empty.line(), empty.text_len(), empty.integer()),
-        (Some(4), Some(0), None)
-    );
-    let quotes = empty.rest();
-    let text = quotes.text(rt.alloc())?.ok_or("no text")?;
-    assert!(rt; text.as_str() == "x''y");
-    let seven = quotes.rest();
-    assert_eq!(rt; (seven.integer(), seven.text_len()), (Some(7), None));
-    let highest = seven.rest();
-    assert_eq!(rt; highest.integer(), Some(9223372036854775807));
-    let above = highest.rest();
-    assert_eq!(rt; above.integer(), None);
-    let last = above.copied().rest();
-    assert_eq!(rt; last.kind(), Some(TokenKind::Symbol(Symbol::Semicolon)));
-    assert!(rt; last.text(rt.alloc())?.is_none());
-    assert!(rt; last.is_symbol(Symbol::Semicolon) && !last.is_symbol(Symbol::Comma));
-    assert!(rt; !word.is_symbol(Symbol::Semicolon) && !word.is_directive(Directive::Setup));
-    let end = last.rest();
-    assert!(rt; end.is_empty() && end.rest().is_empty() && !last.is_empty());
-    assert_eq!(rt;
-        (end.kind(), end.line(), end.integer(), end.text_len()),
-        (None, None, None, None)
-    );
-    assert!(rt; end.text(rt.alloc())?.is_none() && !end.is_word(b""));
+fn bytes_and_their_tokens(rt: HostRuntime) -> Result<(), Fail> {
+    assert_eq!(rt; first_wrong(rt.alloc(), &Tokens, TOKENS)?, None);
+    assert_eq!(rt; first_wrong(rt.alloc(), &Reading, READING)?, None);
+    assert_eq!(rt; first_wrong(rt.alloc(), &Lines, LINES)?, None);
     Ok(())
-}
-
-#[test]
-fn reads_directives(rt: HostRuntime) -> Result<(), Fail> {
-    let bytes = b"\n\\session a";
-    let tokens = lex(rt.alloc(), bytes).ok().ok_or("refused")?;
-    let lexed = Lexed::new(bytes, tokens.as_slice());
-    assert!(rt; lexed.is_directive(Directive::Session) && !lexed.is_directive(Directive::Setup));
-    assert_eq!(rt; lexed.line(), Some(2));
-    assert!(rt; lexed.rest().is_word(b"a") && !lexed.rest().is_directive(Directive::Session));
-    Ok(())
-}
-
-#[test]
-fn counts_lines(rt: HostRuntime) {
-    for (at, line) in [(0, 1), (1, 1), (2, 2), (3, 3), (4, 3), (9, 3)] {
-        assert_eq!(rt; line_at(b"a\n\nb", at), line);
-    }
 }

@@ -1,9 +1,11 @@
-//! Tests of public calls of the large libraries. They stand in a crate of their own, since a library that has tests is
-//! proved twice.
+//! Tests of public calls of the libraries. They stand in a crate of their own, since a library that has tests is proved twice; and as
+//! tables, which are texts, since each function of a test is proved and a row is not.
 #![tactic(auto)]
 
 #[cfg(test)]
-mod catalog;
+mod binding;
+#[cfg(test)]
+mod causes;
 #[cfg(test)]
 mod grammar;
 #[cfg(test)]
@@ -13,4 +15,8 @@ mod print;
 #[cfg(test)]
 mod script;
 #[cfg(test)]
-mod simple;
+mod table;
+#[cfg(test)]
+mod values;
+#[cfg(test)]
+mod words;

@@ -1,7 +1,8 @@
 //! Statements, rows, replies, schedules and lines of a trace printed.
 
+use crate::table::{Subject, first_wrong};
 use aq_base::{List, NoMemory, ReplyLine, Row, Statement, TextVal, TraceEvent, TraceLine, Value};
-use aq_print::*;
+use aq_print::{Runs, print_reply, print_row, print_schedule, print_statement, print_trace};
 use aq_xids::SessNo;
 use std::alloc::Global;
 use std::test::Fail;
@@ -10,32 +11,25 @@ fn text(alloc: Global, word: &str) -> Result<TextVal, NoMemory> {
     TextVal::new(alloc, word)
 }
 
-#[test]
-fn a_statement_is_printed(rt: HostRuntime) -> Result<(), Fail> {
-    let alloc = rt.alloc();
-    let savepoint = Statement::Savepoint(text(alloc, "Select")?);
-    let printed = print_statement(alloc, &savepoint)?;
-    assert!(rt; printed.as_slice() == b"SAVEPOINT \"Select\";\n".as_slice());
-    Ok(())
-}
-
 fn one<T: Drop>(alloc: Global, x: T) -> Result<List<T>, NoMemory> {
     let mut made = List::new(alloc);
     made.push(x)?;
     Ok(made)
 }
 
-/// `(7, 'it''s')`
-fn row(alloc: Global) -> Result<Row, NoMemory> {
+fn statement(alloc: Global) -> Result<List<u8>, NoMemory> {
+    print_statement(alloc, &Statement::Savepoint(text(alloc, "Select")?))
+}
+
+// `(7, 'it''s')`
+fn values(alloc: Global) -> Result<Row, NoMemory> {
     let mut values = List::new(alloc);
     values.push(Value::Int(7))?;
     values.push(Value::Text(text(alloc, "it's")?))?;
     Ok(values)
 }
 
-#[test]
-fn a_line_of_a_trace_is_printed(rt: HostRuntime) -> Result<(), Fail> {
-    let alloc = rt.alloc();
+fn trace(alloc: Global) -> Result<List<u8>, NoMemory> {
     let event = TraceEvent {
         no: 12,
         trigger: text(alloc, "X")?,
@@ -45,28 +39,22 @@ fn a_line_of_a_trace_is_printed(rt: HostRuntime) -> Result<(), Fail> {
         table: text(alloc, "t")?,
         row: 3,
         old: None,
-        new: Some(row(alloc)?),
+        new: Some(values(alloc)?),
         events: one(alloc, event)?,
     };
-    let printed = print_trace(alloc, &line)?;
-    let expected = b"trace a change t 3 - (7, 'it''s') event 12 \"X\"\n";
-    assert!(rt; printed.as_slice() == expected.as_slice());
-    Ok(())
+    print_trace(alloc, &line)
 }
 
-#[test]
-fn rows_and_replies_are_printed(rt: HostRuntime) -> Result<(), Fail> {
-    let alloc = rt.alloc();
-    let values = row(alloc)?;
-    assert!(rt; print_row(alloc, &values)?.as_slice() == b"(7, 'it''s')".as_slice());
-    let printed = print_reply(alloc, &text(alloc, "a")?, 2, &ReplyLine::Row(values))?;
-    assert!(rt; printed.as_slice() == b"a.2: (7, 'it''s')\n".as_slice());
-    Ok(())
+fn reply(alloc: Global) -> Result<List<u8>, NoMemory> {
+    print_reply(
+        alloc,
+        &text(alloc, "a")?,
+        2,
+        &ReplyLine::Row(values(alloc)?),
+    )
 }
 
-#[test]
-fn a_schedule_is_printed(rt: HostRuntime) -> Result<(), Fail> {
-    let alloc = rt.alloc();
+fn schedule(alloc: Global) -> Result<List<u8>, NoMemory> {
     let mut names = List::new(alloc);
     names.push(text(alloc, "a")?)?;
     names.push(text(alloc, "b")?)?;
@@ -74,7 +62,45 @@ fn a_schedule_is_printed(rt: HostRuntime) -> Result<(), Fail> {
     for session in [0, 0, 1, 0, 0, 0] {
         runs.push(SessNo(session))?;
     }
-    let printed = print_schedule(alloc, &runs, &names)?;
-    assert!(rt; printed.as_slice() == b"schedule a*2 b*1 a*3\n".as_slice());
+    print_schedule(alloc, &runs, &names)
+}
+
+// One value of each form, printed.
+struct Printed;
+
+impl Subject for Printed {
+    fn answer(&self, alloc: Global, question: &str) -> Result<String, NoMemory> {
+        let bytes = match question {
+            "statement" => statement(alloc)?,
+            "trace" => trace(alloc)?,
+            "row" => print_row(alloc, &values(alloc)?)?,
+            "reply" => reply(alloc)?,
+            "schedule" => schedule(alloc)?,
+            _ => List::new(alloc),
+        };
+        String::from_utf8_lossy(alloc, bytes.as_slice())
+    }
+}
+
+const PRINTED: &str = "\
+==== statement
+---- SAVEPOINT \"Select\";
+
+==== trace
+---- trace a change t 3 - (7, 'it''s') event 12 \"X\"
+
+==== row
+---- (7, 'it''s')
+==== reply
+---- a.2: (7, 'it''s')
+
+==== schedule
+---- schedule a*2 b*1 a*3
+
+";
+
+#[test]
+fn what_is_printed(rt: HostRuntime) -> Result<(), Fail> {
+    assert_eq!(rt; first_wrong(rt.alloc(), &Printed, PRINTED)?, None);
     Ok(())
 }

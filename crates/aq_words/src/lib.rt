@@ -6,6 +6,3 @@ mod listed;
 mod parsed;
 
 pub use command::{Command, command_of};
-
-#[cfg(test)]
-mod tests;

@@ -17,6 +17,10 @@ use std::rt::Env;
 use std::{env, io};
 
 #[cfg(test)]
+mod cases;
+#[cfg(test)]
+mod examples;
+#[cfg(test)]
 mod tests;
 
 // The words after the program's name. Words that are no text are no list that is built, as no words are.
