@@ -5,6 +5,7 @@ ghost use Rattle.std.specs.Prelude.{◌≡◌, IfOk};
 use crate::copies::Copies;
 use crate::data::{Delete, Insert, Update};
 use crate::expr::Expr;
+use crate::fault::Code;
 use crate::list::List;
 use crate::modes::SetConstraints;
 use crate::same::Same;
@@ -17,6 +18,27 @@ pub enum Returned {
     Null,
     New,
     Old,
+}
+
+/// What a handler of a block catches (PostgreSQL manual, appendix "PostgreSQL Error Codes").
+#[derive(Clone, Copy, PartialEq, Eq)]
+pub enum Condition {
+    /// `OTHERS`: every error.
+    Others,
+    /// `SQLSTATE 'code'`: five digits and upper-case letters that do not end in `000`.
+    SqlState(Code),
+    /// 23505
+    UniqueViolation,
+    /// 23503
+    ForeignKeyViolation,
+    /// 23502
+    NotNullViolation,
+    /// P0001
+    RaiseException,
+    /// 40001
+    SerializationFailure,
+    /// 40P01
+    DeadlockDetected,
 }
 
 /// A statement of a body.
@@ -38,6 +60,23 @@ pub enum BodyStatement {
     Update(Update),
     Delete(Delete),
     SetConstraints(SetConstraints),
+    Block(Block),
+}
+
+/// `BEGIN statements EXCEPTION handlers END`. Without a handler there is no EXCEPTION.
+#[cycle(body)]
+#[derive(Drop)]
+pub struct Block {
+    pub statements: List<BodyStatement>,
+    pub handlers: List<Handler>,
+}
+
+/// `WHEN condition OR condition THEN statements`
+#[cycle(body)]
+#[derive(Drop)]
+pub struct Handler {
+    pub conditions: List<Condition>,
+    pub statements: List<BodyStatement>,
 }
 
 /// `ELSIF condition THEN then`
@@ -49,11 +88,11 @@ pub struct ElseIf {
 }
 
 #[cycle(copies)]
-fn copy_block(block: &List<BodyStatement>) -> Result<List<BodyStatement>, AllocError>
-    ensures { IfOk result (λ made. made ≡ block.now) }
+fn copy_statements(statements: &List<BodyStatement>) -> Result<List<BodyStatement>, AllocError>
+    ensures { IfOk result (λ made. made ≡ statements.now) }
 {
-    let mut made = List::new(*block.allocator());
-    for statement in block.as_slice() {
+    let mut made = List::new(*statements.allocator());
+    for statement in statements.as_slice() {
         made.push(copy_statement(statement)?)?;
     }
     Ok(made)
@@ -65,7 +104,7 @@ fn copy_else_if(else_if: &ElseIf) -> Result<ElseIf, AllocError>
 {
     Ok(ElseIf {
         condition: else_if.condition.copy()?,
-        then: copy_block(&else_if.then)?,
+        then: copy_statements(&else_if.then)?,
     })
 }
 
@@ -81,6 +120,37 @@ fn copy_else_ifs(else_ifs: &List<ElseIf>) -> Result<List<ElseIf>, AllocError>
 }
 
 #[cycle(copies)]
+fn copy_handler(handler: &Handler) -> Result<Handler, AllocError>
+    ensures { IfOk result (λ made. made ≡ handler.now) }
+{
+    Ok(Handler {
+        conditions: handler.conditions.copy()?,
+        statements: copy_statements(&handler.statements)?,
+    })
+}
+
+#[cycle(copies)]
+fn copy_handlers(handlers: &List<Handler>) -> Result<List<Handler>, AllocError>
+    ensures { IfOk result (λ made. made ≡ handlers.now) }
+{
+    let mut made = List::new(*handlers.allocator());
+    for handler in handlers.as_slice() {
+        made.push(copy_handler(handler)?)?;
+    }
+    Ok(made)
+}
+
+#[cycle(copies)]
+fn copy_block(block: &Block) -> Result<Block, AllocError>
+    ensures { IfOk result (λ made. made ≡ block.now) }
+{
+    Ok(Block {
+        statements: copy_statements(&block.statements)?,
+        handlers: copy_handlers(&block.handlers)?,
+    })
+}
+
+#[cycle(copies)]
 fn copy_statement(statement: &BodyStatement) -> Result<BodyStatement, AllocError>
     ensures { IfOk result (λ made. made ≡ statement.now) }
 {
@@ -92,11 +162,11 @@ fn copy_statement(statement: &BodyStatement) -> Result<BodyStatement, AllocError
             otherwise,
         } => Ok(BodyStatement::If {
             condition: condition.copy()?,
-            then: copy_block(then)?,
+            then: copy_statements(then)?,
             else_ifs: copy_else_ifs(else_ifs)?,
             otherwise: match otherwise {
                 None => None,
-                Some(block) => Some(copy_block(block)?),
+                Some(statements) => Some(copy_statements(statements)?),
             },
         }),
         BodyStatement::Raise(text) => Ok(BodyStatement::Raise(text.copy()?)),
@@ -105,12 +175,31 @@ fn copy_statement(statement: &BodyStatement) -> Result<BodyStatement, AllocError
         BodyStatement::Update(update) => Ok(BodyStatement::Update(update.copy()?)),
         BodyStatement::Delete(delete) => Ok(BodyStatement::Delete(delete.copy()?)),
         BodyStatement::SetConstraints(set) => Ok(BodyStatement::SetConstraints(set.copy()?)),
+        BodyStatement::Block(block) => Ok(BodyStatement::Block(copy_block(block)?)),
     }
 }
 
 impl Copies for ElseIf {
     fn copy(&self) -> Result<Self, AllocError> {
         copy_else_if(self)
+    }
+}
+
+impl Copies for Condition {
+    fn copy(&self) -> Result<Self, AllocError> {
+        Ok(*self)
+    }
+}
+
+impl Copies for Handler {
+    fn copy(&self) -> Result<Self, AllocError> {
+        copy_handler(self)
+    }
+}
+
+impl Copies for Block {
+    fn copy(&self) -> Result<Self, AllocError> {
+        copy_block(self)
     }
 }
 
@@ -124,6 +213,26 @@ impl Same for ElseIf {
     #[cycle(same)]
     fn same(&self, other: &Self) -> bool {
         self.condition.same(&other.condition) && self.then.same(&other.then)
+    }
+}
+
+impl Same for Condition {
+    fn same(&self, other: &Self) -> bool {
+        *self == *other
+    }
+}
+
+impl Same for Handler {
+    #[cycle(same)]
+    fn same(&self, other: &Self) -> bool {
+        self.conditions.same(&other.conditions) && self.statements.same(&other.statements)
+    }
+}
+
+impl Same for Block {
+    #[cycle(same)]
+    fn same(&self, other: &Self) -> bool {
+        self.statements.same(&other.statements) && self.handlers.same(&other.handlers)
     }
 }
 
@@ -156,6 +265,7 @@ impl Same for BodyStatement {
             (BodyStatement::Update(a), BodyStatement::Update(b)) => a.same(b),
             (BodyStatement::Delete(a), BodyStatement::Delete(b)) => a.same(b),
             (BodyStatement::SetConstraints(a), BodyStatement::SetConstraints(b)) => a.same(b),
+            (BodyStatement::Block(a), BodyStatement::Block(b)) => a.same(b),
             _ => false,
         }
     }
