@@ -60,15 +60,11 @@ pub enum BodyStatement {
     Update(Update),
     Delete(Delete),
     SetConstraints(SetConstraints),
-    Block(Block),
-}
-
-/// `BEGIN statements EXCEPTION handlers END`. Without a handler there is no EXCEPTION.
-#[cycle(body)]
-#[derive(Drop)]
-pub struct Block {
-    pub statements: List<BodyStatement>,
-    pub handlers: List<Handler>,
+    /// `BEGIN statements EXCEPTION handlers END`. Without a handler there is no EXCEPTION.
+    Block {
+        statements: List<BodyStatement>,
+        handlers: List<Handler>,
+    },
 }
 
 /// `WHEN condition OR condition THEN statements`
@@ -85,6 +81,13 @@ pub struct Handler {
 pub struct ElseIf {
     pub condition: Expr,
     pub then: List<BodyStatement>,
+}
+
+/// The body of a function: its outermost block. Without a handler there is no EXCEPTION.
+#[derive(Drop)]
+pub struct Body {
+    pub statements: List<BodyStatement>,
+    pub handlers: List<Handler>,
 }
 
 #[cycle(copies)]
@@ -141,16 +144,6 @@ fn copy_handlers(handlers: &List<Handler>) -> Result<List<Handler>, AllocError>
 }
 
 #[cycle(copies)]
-fn copy_block(block: &Block) -> Result<Block, AllocError>
-    ensures { IfOk result (λ made. made ≡ block.now) }
-{
-    Ok(Block {
-        statements: copy_statements(&block.statements)?,
-        handlers: copy_handlers(&block.handlers)?,
-    })
-}
-
-#[cycle(copies)]
 fn copy_statement(statement: &BodyStatement) -> Result<BodyStatement, AllocError>
     ensures { IfOk result (λ made. made ≡ statement.now) }
 {
@@ -175,7 +168,13 @@ fn copy_statement(statement: &BodyStatement) -> Result<BodyStatement, AllocError
         BodyStatement::Update(update) => Ok(BodyStatement::Update(update.copy()?)),
         BodyStatement::Delete(delete) => Ok(BodyStatement::Delete(delete.copy()?)),
         BodyStatement::SetConstraints(set) => Ok(BodyStatement::SetConstraints(set.copy()?)),
-        BodyStatement::Block(block) => Ok(BodyStatement::Block(copy_block(block)?)),
+        BodyStatement::Block {
+            statements,
+            handlers,
+        } => Ok(BodyStatement::Block {
+            statements: copy_statements(statements)?,
+            handlers: copy_handlers(handlers)?,
+        }),
     }
 }
 
@@ -197,9 +196,12 @@ impl Copies for Handler {
     }
 }
 
-impl Copies for Block {
+impl Copies for Body {
     fn copy(&self) -> Result<Self, AllocError> {
-        copy_block(self)
+        Ok(Body {
+            statements: copy_statements(&self.statements)?,
+            handlers: copy_handlers(&self.handlers)?,
+        })
     }
 }
 
@@ -229,8 +231,7 @@ impl Same for Handler {
     }
 }
 
-impl Same for Block {
-    #[cycle(same)]
+impl Same for Body {
     fn same(&self, other: &Self) -> bool {
         self.statements.same(&other.statements) && self.handlers.same(&other.handlers)
     }
@@ -265,7 +266,16 @@ impl Same for BodyStatement {
             (BodyStatement::Update(a), BodyStatement::Update(b)) => a.same(b),
             (BodyStatement::Delete(a), BodyStatement::Delete(b)) => a.same(b),
             (BodyStatement::SetConstraints(a), BodyStatement::SetConstraints(b)) => a.same(b),
-            (BodyStatement::Block(a), BodyStatement::Block(b)) => a.same(b),
+            (
+                BodyStatement::Block {
+                    statements,
+                    handlers,
+                },
+                BodyStatement::Block {
+                    statements: other_statements,
+                    handlers: other_handlers,
+                },
+            ) => statements.same(other_statements) && handlers.same(other_handlers),
             _ => false,
         }
     }
