@@ -5,6 +5,7 @@ ghost use Rattle.std.specs.Prelude.{◌≡◌, IfOk};
 use crate::copies::Copies;
 use crate::data::{Delete, Insert, Update};
 use crate::expr::Expr;
+use crate::fault::Code;
 use crate::list::List;
 use crate::modes::SetConstraints;
 use crate::same::Same;
@@ -17,6 +18,27 @@ pub enum Returned {
     Null,
     New,
     Old,
+}
+
+/// What a handler of a block catches (PostgreSQL manual, appendix "PostgreSQL Error Codes").
+#[derive(Clone, Copy, PartialEq, Eq)]
+pub enum Condition {
+    /// `OTHERS`: every error.
+    Others,
+    /// `SQLSTATE 'code'`: five digits and upper-case letters that do not end in `000`.
+    SqlState(Code),
+    /// 23505
+    UniqueViolation,
+    /// 23503
+    ForeignKeyViolation,
+    /// 23502
+    NotNullViolation,
+    /// P0001
+    RaiseException,
+    /// 40001
+    SerializationFailure,
+    /// 40P01
+    DeadlockDetected,
 }
 
 /// A statement of a body.
@@ -38,6 +60,19 @@ pub enum BodyStatement {
     Update(Update),
     Delete(Delete),
     SetConstraints(SetConstraints),
+    /// `BEGIN statements EXCEPTION handlers END`. Without a handler there is no EXCEPTION.
+    Block {
+        statements: List<BodyStatement>,
+        handlers: List<Handler>,
+    },
+}
+
+/// `WHEN condition OR condition THEN statements`
+#[cycle(body)]
+#[derive(Drop)]
+pub struct Handler {
+    pub conditions: List<Condition>,
+    pub statements: List<BodyStatement>,
 }
 
 /// `ELSIF condition THEN then`
@@ -48,12 +83,19 @@ pub struct ElseIf {
     pub then: List<BodyStatement>,
 }
 
+/// The body of a function: its outermost block. Without a handler there is no EXCEPTION.
+#[derive(Drop)]
+pub struct Body {
+    pub statements: List<BodyStatement>,
+    pub handlers: List<Handler>,
+}
+
 #[cycle(copies)]
-fn copy_block(block: &List<BodyStatement>) -> Result<List<BodyStatement>, AllocError>
-    ensures { IfOk result (λ made. made ≡ block.now) }
+fn copy_statements(statements: &List<BodyStatement>) -> Result<List<BodyStatement>, AllocError>
+    ensures { IfOk result (λ made. made ≡ statements.now) }
 {
-    let mut made = List::new(*block.allocator());
-    for statement in block.as_slice() {
+    let mut made = List::new(*statements.allocator());
+    for statement in statements.as_slice() {
         made.push(copy_statement(statement)?)?;
     }
     Ok(made)
@@ -65,7 +107,7 @@ fn copy_else_if(else_if: &ElseIf) -> Result<ElseIf, AllocError>
 {
     Ok(ElseIf {
         condition: else_if.condition.copy()?,
-        then: copy_block(&else_if.then)?,
+        then: copy_statements(&else_if.then)?,
     })
 }
 
@@ -76,6 +118,27 @@ fn copy_else_ifs(else_ifs: &List<ElseIf>) -> Result<List<ElseIf>, AllocError>
     let mut made = List::new(*else_ifs.allocator());
     for else_if in else_ifs.as_slice() {
         made.push(copy_else_if(else_if)?)?;
+    }
+    Ok(made)
+}
+
+#[cycle(copies)]
+fn copy_handler(handler: &Handler) -> Result<Handler, AllocError>
+    ensures { IfOk result (λ made. made ≡ handler.now) }
+{
+    Ok(Handler {
+        conditions: handler.conditions.copy()?,
+        statements: copy_statements(&handler.statements)?,
+    })
+}
+
+#[cycle(copies)]
+fn copy_handlers(handlers: &List<Handler>) -> Result<List<Handler>, AllocError>
+    ensures { IfOk result (λ made. made ≡ handlers.now) }
+{
+    let mut made = List::new(*handlers.allocator());
+    for handler in handlers.as_slice() {
+        made.push(copy_handler(handler)?)?;
     }
     Ok(made)
 }
@@ -92,11 +155,11 @@ fn copy_statement(statement: &BodyStatement) -> Result<BodyStatement, AllocError
             otherwise,
         } => Ok(BodyStatement::If {
             condition: condition.copy()?,
-            then: copy_block(then)?,
+            then: copy_statements(then)?,
             else_ifs: copy_else_ifs(else_ifs)?,
             otherwise: match otherwise {
                 None => None,
-                Some(block) => Some(copy_block(block)?),
+                Some(statements) => Some(copy_statements(statements)?),
             },
         }),
         BodyStatement::Raise(text) => Ok(BodyStatement::Raise(text.copy()?)),
@@ -105,12 +168,40 @@ fn copy_statement(statement: &BodyStatement) -> Result<BodyStatement, AllocError
         BodyStatement::Update(update) => Ok(BodyStatement::Update(update.copy()?)),
         BodyStatement::Delete(delete) => Ok(BodyStatement::Delete(delete.copy()?)),
         BodyStatement::SetConstraints(set) => Ok(BodyStatement::SetConstraints(set.copy()?)),
+        BodyStatement::Block {
+            statements,
+            handlers,
+        } => Ok(BodyStatement::Block {
+            statements: copy_statements(statements)?,
+            handlers: copy_handlers(handlers)?,
+        }),
     }
 }
 
 impl Copies for ElseIf {
     fn copy(&self) -> Result<Self, AllocError> {
         copy_else_if(self)
+    }
+}
+
+impl Copies for Condition {
+    fn copy(&self) -> Result<Self, AllocError> {
+        Ok(*self)
+    }
+}
+
+impl Copies for Handler {
+    fn copy(&self) -> Result<Self, AllocError> {
+        copy_handler(self)
+    }
+}
+
+impl Copies for Body {
+    fn copy(&self) -> Result<Self, AllocError> {
+        Ok(Body {
+            statements: copy_statements(&self.statements)?,
+            handlers: copy_handlers(&self.handlers)?,
+        })
     }
 }
 
@@ -124,6 +215,25 @@ impl Same for ElseIf {
     #[cycle(same)]
     fn same(&self, other: &Self) -> bool {
         self.condition.same(&other.condition) && self.then.same(&other.then)
+    }
+}
+
+impl Same for Condition {
+    fn same(&self, other: &Self) -> bool {
+        *self == *other
+    }
+}
+
+impl Same for Handler {
+    #[cycle(same)]
+    fn same(&self, other: &Self) -> bool {
+        self.conditions.same(&other.conditions) && self.statements.same(&other.statements)
+    }
+}
+
+impl Same for Body {
+    fn same(&self, other: &Self) -> bool {
+        self.statements.same(&other.statements) && self.handlers.same(&other.handlers)
     }
 }
 
@@ -156,6 +266,16 @@ impl Same for BodyStatement {
             (BodyStatement::Update(a), BodyStatement::Update(b)) => a.same(b),
             (BodyStatement::Delete(a), BodyStatement::Delete(b)) => a.same(b),
             (BodyStatement::SetConstraints(a), BodyStatement::SetConstraints(b)) => a.same(b),
+            (
+                BodyStatement::Block {
+                    statements,
+                    handlers,
+                },
+                BodyStatement::Block {
+                    statements: other_statements,
+                    handlers: other_handlers,
+                },
+            ) => statements.same(other_statements) && handlers.same(other_handlers),
             _ => false,
         }
     }

@@ -1,5 +1,5 @@
-use crate::body::BodyStatement;
-use crate::bound_body::BoundBodyStatement;
+use crate::body::Body;
+use crate::bound_body::BoundBody;
 use crate::bound_expr::BoundExpr;
 use crate::constraint::Action;
 use crate::list::List;
@@ -69,6 +69,8 @@ pub struct ForeignKey {
     pub on_delete: Action,
     pub on_update: Action,
     pub con: ConNo,
+    /// The columns that an ON DELETE SET NULL or SET DEFAULT sets: those of its list, or all of the key.
+    pub set_cols: List<ColNo>,
 }
 
 /// A constraint of a table as SET CONSTRAINTS knows it: a key, a foreign key or a constraint trigger.
@@ -83,7 +85,7 @@ pub struct Constraint {
 #[derive(Drop)]
 pub struct Function {
     pub name: TextVal,
-    pub body: List<BodyStatement>,
+    pub body: Body,
 }
 
 /// What a trigger does when its event fires.
@@ -94,7 +96,7 @@ pub enum Does {
     /// Does what the foreign key says for the children of the parent row.
     Parent(FkNo),
     /// Runs the statements of its function.
-    Body(List<BoundBodyStatement>),
+    Body(BoundBody),
     /// Tests the new row by a rule of the program.
     Native(TextVal),
 }

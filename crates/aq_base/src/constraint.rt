@@ -27,13 +27,15 @@ pub enum Action {
     SetDefault,
 }
 
-/// `table (column, column) MATCH matching ON DELETE on_delete ON UPDATE on_update timing`
+/// `table (column, column) MATCH matching ON DELETE on_delete (column, column) ON UPDATE on_update timing`
 #[derive(Drop)]
 pub struct Reference {
     pub table: TextVal,
     pub columns: Option<List<TextVal>>,
     pub matching: Match,
     pub on_delete: Action,
+    /// The list of columns that may stand behind ON DELETE SET NULL and SET DEFAULT.
+    pub set_columns: Option<List<TextVal>>,
     pub on_update: Action,
     pub timing: Decl,
 }
@@ -100,6 +102,7 @@ impl Copies for Reference {
             columns: self.columns.copy()?,
             matching: self.matching,
             on_delete: self.on_delete,
+            set_columns: self.set_columns.copy()?,
             on_update: self.on_update,
             timing: self.timing,
         })
@@ -112,6 +115,7 @@ impl Same for Reference {
             && self.columns.same(&other.columns)
             && self.matching.same(&other.matching)
             && self.on_delete.same(&other.on_delete)
+            && self.set_columns.same(&other.set_columns)
             && self.on_update.same(&other.on_update)
             && self.timing.same(&other.timing)
     }

@@ -20,6 +20,40 @@ pub enum Comparison {
     AtLeast,
 }
 
+/// An operator with one operand.
+#[derive(Clone, Copy, PartialEq, Eq)]
+pub enum UnaryOperator {
+    /// `- a`
+    Negate,
+    /// `NOT a`
+    Not,
+    /// `a IS NULL`
+    IsNull,
+    /// `a IS NOT NULL`
+    IsNotNull,
+}
+
+/// An operator with two operands.
+#[derive(Clone, Copy, PartialEq, Eq)]
+pub enum BinaryOperator {
+    /// `a * b`
+    Multiply,
+    /// `a + b`
+    Add,
+    /// `a - b`
+    Subtract,
+    /// `a = b`, or another comparison.
+    Compare(Comparison),
+    /// `a IS DISTINCT FROM b`
+    IsDistinct,
+    /// `a IS NOT DISTINCT FROM b`
+    IsNotDistinct,
+    /// `a AND b`
+    And,
+    /// `a OR b`
+    Or,
+}
+
 /// An expression as it was read. Parentheses are gone: the tree says what belongs to what.
 #[derive(Drop)]
 pub enum Expr {
@@ -38,34 +72,15 @@ pub enum Expr {
     New(TextVal),
     /// `TG_OP`: the operation that fired a trigger.
     Operation,
-    /// `- a`
-    Negate(Boxed<Expr>),
-    /// `a * b`
-    Multiply(Boxed<Expr>, Boxed<Expr>),
-    /// `a + b`
-    Add(Boxed<Expr>, Boxed<Expr>),
-    /// `a - b`
-    Subtract(Boxed<Expr>, Boxed<Expr>),
-    /// `a = b`, or another comparison.
-    Compare {
+    Unary {
+        operator: UnaryOperator,
+        operand: Boxed<Expr>,
+    },
+    Binary {
         left: Boxed<Expr>,
-        comparison: Comparison,
+        operator: BinaryOperator,
         right: Boxed<Expr>,
     },
-    /// `a IS NULL`
-    IsNull(Boxed<Expr>),
-    /// `a IS NOT NULL`
-    IsNotNull(Boxed<Expr>),
-    /// `a IS DISTINCT FROM b`
-    IsDistinct(Boxed<Expr>, Boxed<Expr>),
-    /// `a IS NOT DISTINCT FROM b`
-    IsNotDistinct(Boxed<Expr>, Boxed<Expr>),
-    /// `NOT a`
-    Not(Boxed<Expr>),
-    /// `a AND b`
-    And(Boxed<Expr>, Boxed<Expr>),
-    /// `a OR b`
-    Or(Boxed<Expr>, Boxed<Expr>),
 }
 
 #[cycle(copies)]
@@ -89,38 +104,19 @@ fn copy_expr(expr: &Expr) -> Result<Expr, AllocError>
         Expr::Old(column) => Ok(Expr::Old(column.copy()?)),
         Expr::New(column) => Ok(Expr::New(column.copy()?)),
         Expr::Operation => Ok(Expr::Operation),
-        Expr::Negate(operand) => Ok(Expr::Negate(copy_operand(operand)?)),
-        Expr::Multiply(left, right) => Ok(Expr::Multiply(
-            copy_operand(left)?,
-            copy_operand(right)?,
-        )),
-        Expr::Add(left, right) => Ok(Expr::Add(copy_operand(left)?, copy_operand(right)?)),
-        Expr::Subtract(left, right) => Ok(Expr::Subtract(
-            copy_operand(left)?,
-            copy_operand(right)?,
-        )),
-        Expr::Compare {
+        Expr::Unary { operator, operand } => Ok(Expr::Unary {
+            operator: *operator,
+            operand: copy_operand(operand)?,
+        }),
+        Expr::Binary {
             left,
-            comparison,
+            operator,
             right,
-        } => Ok(Expr::Compare {
+        } => Ok(Expr::Binary {
             left: copy_operand(left)?,
-            comparison: *comparison,
+            operator: *operator,
             right: copy_operand(right)?,
         }),
-        Expr::IsNull(operand) => Ok(Expr::IsNull(copy_operand(operand)?)),
-        Expr::IsNotNull(operand) => Ok(Expr::IsNotNull(copy_operand(operand)?)),
-        Expr::IsDistinct(left, right) => Ok(Expr::IsDistinct(
-            copy_operand(left)?,
-            copy_operand(right)?,
-        )),
-        Expr::IsNotDistinct(left, right) => Ok(Expr::IsNotDistinct(
-            copy_operand(left)?,
-            copy_operand(right)?,
-        )),
-        Expr::Not(operand) => Ok(Expr::Not(copy_operand(operand)?)),
-        Expr::And(left, right) => Ok(Expr::And(copy_operand(left)?, copy_operand(right)?)),
-        Expr::Or(left, right) => Ok(Expr::Or(copy_operand(left)?, copy_operand(right)?)),
     }
 }
 
@@ -145,29 +141,25 @@ impl Same for Expr {
             (Expr::Old(a), Expr::Old(b)) => a.same(b),
             (Expr::New(a), Expr::New(b)) => a.same(b),
             (Expr::Operation, Expr::Operation) => true,
-            (Expr::Negate(a), Expr::Negate(b)) => a.same(b),
-            (Expr::Multiply(a, c), Expr::Multiply(b, d)) => a.same(b) && c.same(d),
-            (Expr::Add(a, c), Expr::Add(b, d)) => a.same(b) && c.same(d),
-            (Expr::Subtract(a, c), Expr::Subtract(b, d)) => a.same(b) && c.same(d),
             (
-                Expr::Compare {
-                    left: a,
-                    comparison,
-                    right: c,
+                Expr::Unary { operator, operand },
+                Expr::Unary {
+                    operator: other_operator,
+                    operand: other_operand,
                 },
-                Expr::Compare {
-                    left: b,
-                    comparison: other_comparison,
-                    right: d,
+            ) => *operator == *other_operator && operand.same(other_operand),
+            (
+                Expr::Binary {
+                    left,
+                    operator,
+                    right,
                 },
-            ) => a.same(b) && *comparison == *other_comparison && c.same(d),
-            (Expr::IsNull(a), Expr::IsNull(b)) => a.same(b),
-            (Expr::IsNotNull(a), Expr::IsNotNull(b)) => a.same(b),
-            (Expr::IsDistinct(a, c), Expr::IsDistinct(b, d)) => a.same(b) && c.same(d),
-            (Expr::IsNotDistinct(a, c), Expr::IsNotDistinct(b, d)) => a.same(b) && c.same(d),
-            (Expr::Not(a), Expr::Not(b)) => a.same(b),
-            (Expr::And(a, c), Expr::And(b, d)) => a.same(b) && c.same(d),
-            (Expr::Or(a, c), Expr::Or(b, d)) => a.same(b) && c.same(d),
+                Expr::Binary {
+                    left: other_left,
+                    operator: other_operator,
+                    right: other_right,
+                },
+            ) => left.same(other_left) && *operator == *other_operator && right.same(other_right),
             _ => false,
         }
     }

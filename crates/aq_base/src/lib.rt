@@ -26,8 +26,8 @@ mod trace;
 mod trigger;
 mod value;
 
-pub use body::{BodyStatement, ElseIf, Returned};
-pub use bound_body::{BoundBodyStatement, BoundElseIf};
+pub use body::{Body, BodyStatement, Condition, ElseIf, Handler, Returned};
+pub use bound_body::{BoundBody, BoundBodyStatement, BoundElseIf, BoundHandler};
 pub use bound_data::{
     BoundAssignment, BoundColumns, BoundDelete, BoundFrom, BoundGiven, BoundInsert, BoundSelect,
     BoundSource, BoundUpdate,
@@ -41,7 +41,7 @@ pub use catalog::{
 pub use constraint::{Action, ColumnConstraint, Match, Reference, TableConstraint};
 pub use copies::Copies;
 pub use data::{Assignment, Columns, Delete, Given, Insert, LockMode, Select, Source, Update};
-pub use expr::{Comparison, Expr};
+pub use expr::{BinaryOperator, Comparison, Expr, UnaryOperator};
 pub use fault::{Code, SqlFault};
 pub use list::List;
 pub use modes::{ConstraintMode, Constraints, SetConstraints};

@@ -108,6 +108,22 @@ pub enum TraceLine {
         session: TextVal,
         name: TextVal,
     },
+    /// A block with handlers of a body was entered: the number of the transaction's blocks that are open with it.
+    Block {
+        session: TextVal,
+        block: u64,
+    },
+    /// The blocks with this number and more were left without an error.
+    Unblock {
+        session: TextVal,
+        block: u64,
+    },
+    /// A block caught an error.
+    Caught {
+        session: TextVal,
+        block: u64,
+        code: Code,
+    },
     /// A wait for these sessions began.
     Wait {
         session: TextVal,

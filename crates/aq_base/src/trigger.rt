@@ -1,6 +1,6 @@
 //! Functions and their triggers (PostgreSQL manual, pages CREATE FUNCTION and CREATE TRIGGER).
 
-use crate::body::BodyStatement;
+use crate::body::Body;
 use crate::catalog::Decl;
 use crate::copies::Copies;
 use crate::expr::Expr;
@@ -39,11 +39,11 @@ pub enum Each {
     Statement,
 }
 
-/// `CREATE FUNCTION name() RETURNS trigger LANGUAGE plpgsql AS $$ BEGIN body END $$`
+/// `CREATE FUNCTION name() RETURNS trigger LANGUAGE plpgsql AS $$ body $$`
 #[derive(Drop)]
 pub struct CreateFunction {
     pub name: TextVal,
-    pub body: List<BodyStatement>,
+    pub body: Body,
 }
 
 /// `CREATE TRIGGER name AFTER event OR event ON table REFERENCING transitions FOR EACH each
