@@ -8,8 +8,7 @@ use Rattle.aq_base.specs.declared.catalog.UniqueKey.{UniqueKey}
 use Rattle.aq_base.specs.declared.catalog.ForeignKey.{ForeignKey}
 use Rattle.aq_base.specs.declared.catalog.Constraint.{Constraint}
 use Rattle.aq_base.specs.declared.catalog.Trigger.{Trigger}
-use Rattle.aq_catalog.specs.Catalogs.{Catalog}
-use Rattle.aq_catalog.specs.Catalogs.{number_of_column}
+use Rattle.aq_catalog.specs.Catalogs.{Catalog, number_of_column}
 use Rattle.aq_setup.specs.Tables.{with_not_null, without_nulls}
 use Rattle.aq_catalog.specs.Marks.{with_columns_not_null}
 use Rattle.aq_additions.specs.Steps.{Follows, Extends, nulls_in}

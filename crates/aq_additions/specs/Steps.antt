@@ -7,8 +7,7 @@ use Rattle.aq_base.specs.declared.catalog.Table.{Table}
 use Rattle.aq_base.specs.declared.catalog.ForeignKey.{ForeignKey}
 use Rattle.aq_base.specs.declared.catalog.Trigger.{Trigger}
 use Rattle.aq_base.specs.declared.catalog.Does.TheVariants.{Check, Parent}
-use Rattle.aq_catalog.specs.Catalogs.{Catalog, columns_at}
-use Rattle.aq_catalog.specs.Catalogs.{number_of_table, number_of_column}
+use Rattle.aq_catalog.specs.Catalogs.{Catalog, columns_at, number_of_table, number_of_column}
 use Rattle.aq_setup.specs.References.{parent_cols}
 use Rattle.aq_setup.specs.Tables.{Referring, without_nulls, reference_trigger, parent_trigger_name, child_trigger_name, action_con, is_full}
 

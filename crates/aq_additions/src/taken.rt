@@ -8,7 +8,6 @@ ghost use Rattle.std.specs.Map.{lookup};
 ghost use Rattle.aq_base.specs.Names.{Text, same_text};
 ghost use Rattle.aq_catalog.specs.Catalogs as catalogs;
 ghost use Rattle.aq_setup.specs.Constraints as constraints;
-ghost use Rattle.aq_setup.specs.Tables as tables;
 ghost use Rattle.aq_catalog.specs.Numbered.{AreTaken};
 ghost use Rattle.aq_additions.specs.Taken.{entered, renumbered};
 

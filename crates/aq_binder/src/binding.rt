@@ -2,7 +2,6 @@
 
 ghost use Rattle.std.specs.Prelude.{◌≡◌, IfOk, map, option_map};
 ghost use Rattle.aq_catalog.specs.Catalogs as catalogs;
-ghost use Rattle.aq_setup.specs.Scopes as scopes;
 ghost use Rattle.aq_setup.specs.Binding as binding;
 ghost use Rattle.aq_base.specs.declared.bound_data.BoundSource.TheVariants.{Query};
 ghost use Rattle.aq_binder.specs.Bodies.{bound_else_if as else_if_is};

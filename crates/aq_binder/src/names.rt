@@ -4,7 +4,6 @@ ghost use Rattle.std.specs.Prelude.{◌≡◌, [], ◌++◌, map};
 ghost use Rattle.std.specs.List.{flat_map, list_any};
 ghost use Rattle.aq_base.specs.Names.{same_text};
 ghost use Rattle.aq_refusals.specs.Faults as faults;
-ghost use Rattle.aq_catalog.specs.Catalogs.{column_number};
 ghost use Rattle.aq_setup.specs.Names as names;
 ghost use Rattle.aq_setup.specs.Scopes.{query_scope};
 ghost use Rattle.aq_refusals.specs.Answers.{Tells};

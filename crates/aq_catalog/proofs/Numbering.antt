@@ -11,10 +11,9 @@ use Rattle.std.proofs.lemmas.List.Folds.{list_any-append}
 use Rattle.std.proofs.lemmas.Option.{slice_get_within, same_Some}
 use Rattle.aq_base.specs.Names.{Text, same_text}
 use Rattle.aq_base.specs.declared.catalog.Constraint.{Constraint}
-use Rattle.aq_catalog.specs.Catalogs.{places}
+use Rattle.aq_catalog.specs.Catalogs.{places, names_in}
 use Rattle.aq_base.proofs.Lists.{slice_get-push_cases}
 use Rattle.aq_catalog.specs.Numbered.{AreTaken, is_of, IsNumbered}
-use Rattle.aq_catalog.specs.Catalogs.{names_in}
 use Rattle.aq_catalog.proofs.Standing.{found_in_places}
 
 -- ---- one constraint more

@@ -4,7 +4,6 @@ use Rattle.std.proofs.lemmas.List.{take-append-le}
 use Rattle.std.proofs.Math.Seq.{take-length}
 use Rattle.aq_base.specs.declared.catalog.Trigger.{Trigger}
 use Rattle.aq_catalog.specs.Catalogs.{Catalog}
-use Rattle.aq_catalog.specs.Catalogs.{number_of_column}
 use Rattle.aq_catalog.specs.declared.mark.Mark.{Mark}
 use Rattle.aq_catalog.specs.Marks.{mark_of, shortened}
 

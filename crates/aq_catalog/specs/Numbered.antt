@@ -1,5 +1,5 @@
 -- The numbers at which the search for a free name of a constraint begins.
-use Rattle.std.specs.Prelude.{ℕ, Bool, true, ◌≡◌, ◌<◌, ◌≤◌, ◌==◌, ◌++◌, List, Some, filter, length, map, slice_get, slice_index_or}
+use Rattle.std.specs.Prelude.{ℕ, Bool, true, ◌≡◌, ◌<◌, ◌≤◌, ◌==◌, ◌++◌, List, Some, length, slice_get, slice_index_or}
 use Rattle.std.specs.List.{list_any}
 use Rattle.std.specs.Fmt.{decimal}
 use Rattle.aq_base.specs.Names.{Text, same_text}

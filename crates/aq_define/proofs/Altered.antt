@@ -3,12 +3,9 @@ use Rattle.std.proofs.Common.{◌≡◌, ℕ, List, [], ◌++◌, Some, Result, 
 use Rattle.std.proofs.lemmas.List.{append-nil}
 use Rattle.std.proofs.lemmas.Option.{same_Some}
 use Rattle.aq_base.specs.declared.table.AlterTable.{AlterTable}
-use Rattle.aq_catalog.specs.Catalogs.{Catalog}
+use Rattle.aq_catalog.specs.Catalogs.{Catalog, number_of_table, names_taken, table_number}
 use Rattle.aq_setup.specs.Constraints.{NamedConstraint, name_of}
-use Rattle.aq_catalog.specs.Catalogs.{number_of_table}
 use Rattle.aq_setup.specs.Tables.{altered, referring_of, with_constraint_key}
-use Rattle.aq_catalog.specs.Catalogs.{names_taken}
-use Rattle.aq_catalog.specs.Catalogs.{table_number}
 use Rattle.aq_refusals.specs.declared.fault.CatFault.{CatFault}
 use Rattle.aq_refusals.specs.Answers.{Tells}
 use Rattle.aq_tables.specs.References.{reference_faults}

@@ -4,12 +4,11 @@ use Rattle.std.specs.List.{flat_map}
 use Rattle.aq_base.specs.declared.fault.SqlFault.{SqlFault}
 use Rattle.aq_base.specs.declared.table.CreateTable.{CreateTable}
 use Rattle.aq_base.specs.declared.table.AlterTable.{AlterTable}
-use Rattle.aq_catalog.specs.Catalogs.{Catalog, table_number}
+use Rattle.aq_catalog.specs.Catalogs.{Catalog, table_number, number_of_table}
 use Rattle.aq_setup.specs.Constraints.{NamedConstraint}
 use Rattle.aq_base.specs.Names.{Text, is_short}
 use Rattle.aq_refusals.specs.Faults.{over_limit, long_name, no_column}
 use Rattle.aq_setup.specs.Names.{table_faults}
-use Rattle.aq_catalog.specs.Catalogs.{number_of_table}
 use Rattle.aq_setup.specs.Tables.{Added, created, altered, referring_of, table_limit, column_limit, reference_limit, long_names, table_exists, constraints_exist, items_twice, listed_twice, second_primary, missing_parents, missing_columns, constraint_unknown, with_keys, with_references, default_faults, declared_columns}
 use Rattle.aq_catalog.specs.Marks.{mark_of, shortened}
 use Rattle.aq_tables.specs.References.{reference_faults}

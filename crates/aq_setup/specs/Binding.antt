@@ -51,9 +51,8 @@ use Rattle.aq_base.specs.declared.bound_statement.Bound.TheVariants as bound_sta
 use Rattle.aq_base.specs.declared.bound_body.BoundBodyStatement.{BoundBodyStatement}
 use Rattle.aq_base.specs.declared.bound_body.BoundBodyStatement.TheVariants as bound_bodies
 use Rattle.aq_base.specs.declared.bound_body.BoundElseIf.{BoundElseIf}
-use Rattle.aq_catalog.specs.Catalogs.{Catalog, table_columns, constraints_named}
+use Rattle.aq_catalog.specs.Catalogs.{Catalog, table_columns, constraints_named, number_of_table, number_of_column}
 use Rattle.aq_setup.specs.Scopes.{Setting, in_session, Scope, no_row, table_scope, is_text, query_scope}
-use Rattle.aq_catalog.specs.Catalogs.{number_of_table, number_of_column}
 use Rattle.aq_setup.specs.Names.{expression_names, insert_names, update_names, delete_names, select_names}
 use Rattle.aq_setup.specs.Lengths.{insert_lengths, update_lengths}
 use Rattle.aq_setup.specs.Kinds.{boolean_kinds, insert_kinds, update_kinds, delete_kinds, select_kinds}

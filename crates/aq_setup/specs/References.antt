@@ -7,8 +7,7 @@ use Rattle.aq_base.specs.declared.fault.SqlFault.{SqlFault}
 use Rattle.aq_base.specs.declared.script.Kind.{Kind}
 use Rattle.aq_base.specs.declared.constraint.Reference.{Reference}
 use Rattle.aq_base.specs.declared.catalog.Column.{Column}
-use Rattle.aq_catalog.specs.Catalogs.{Catalog, table_columns, primary_cols, is_number_in}
-use Rattle.aq_catalog.specs.Catalogs.{number_of_table, number_of_column}
+use Rattle.aq_catalog.specs.Catalogs.{Catalog, table_columns, primary_cols, is_number_in, number_of_table, number_of_column}
 use Rattle.aq_setup.specs.Kinds.{same_kind}
 use Rattle.aq_refusals.specs.Faults.{unequal_columns, no_such_key, no_primary_key, unequal_kinds}
 

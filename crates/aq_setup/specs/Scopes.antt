@@ -1,6 +1,6 @@
 -- What the names in a statement and in its expressions may stand for (PostgreSQL manual, section "Column References", and chapter
 -- "PL/pgSQL", section "Trigger Functions").
-use Rattle.std.specs.Prelude.{ℕ, Bool, false, ◌||◌, List, [], ◌∷◌, Option, Some, None, if◌then◌else◌}
+use Rattle.std.specs.Prelude.{Bool, false, ◌||◌, List, [], ◌∷◌, Option, Some, None, if◌then◌else◌}
 use Rattle.std.specs.List.{list_any}
 use Rattle.aq_base.specs.Names.{Text, same_text}
 use Rattle.aq_base.specs.declared.catalog.Column.{Column}

@@ -30,9 +30,8 @@ use Rattle.aq_base.specs.declared.catalog.Table.{Table}
 use Rattle.aq_base.specs.declared.catalog.Trigger.{Trigger}
 use Rattle.aq_base.specs.declared.catalog.Does.{Does}
 use Rattle.aq_base.specs.declared.catalog.Does.TheVariants.{Check, Parent}
-use Rattle.aq_catalog.specs.Catalogs.{Catalog, table_number, table_columns, columns_at, places, is_number_in, has_primary, names_taken}
+use Rattle.aq_catalog.specs.Catalogs.{Catalog, table_number, table_columns, columns_at, places, is_number_in, has_primary, names_taken, number_of_table, number_of_column}
 use Rattle.aq_setup.specs.Scopes.{repeats, repeats_behind}
-use Rattle.aq_catalog.specs.Catalogs.{number_of_table, number_of_column}
 use Rattle.aq_setup.specs.Names.{unknown, table_faults}
 use Rattle.aq_setup.specs.Kinds.{same_kind, constant_kind}
 use Rattle.aq_setup.specs.Constraints.{of_item, constrained_columns, reference_of, is_primary, NamedConstraint, named}

@@ -22,11 +22,9 @@ use Rattle.aq_base.specs.declared.catalog.Does.{Does}
 use Rattle.aq_base.specs.declared.catalog.Does.TheVariants.{Check, Parent, Body, Native}
 use Rattle.aq_base.specs.declared.catalog.Trigger.{Trigger}
 use Rattle.aq_base.specs.declared.catalog.NativeName.{NativeName}
-use Rattle.aq_catalog.specs.Catalogs.{Catalog, table_number, table_columns, function_named, native_named, trigger_names}
+use Rattle.aq_catalog.specs.Catalogs.{Catalog, table_number, table_columns, function_named, native_named, trigger_names, number_of_table, number_of_column, names_taken}
 use Rattle.aq_setup.specs.Scopes.{Setting, no_row, repeats}
-use Rattle.aq_catalog.specs.Catalogs.{number_of_table, number_of_column}
 use Rattle.aq_setup.specs.Names.{unknown, table_faults}
-use Rattle.aq_catalog.specs.Catalogs.{names_taken}
 use Rattle.aq_setup.specs.Binding.{bound_expression, condition_faults, body_faults, bound_body}
 use Rattle.aq_setup.specs.Order.{SetupFaults, faultless}
 use Rattle.aq_refusals.specs.Faults.{no_column, column_twice, over_limit, trigger_exists, constraint_exists, no_function, transition_events, transition_columns, no_old_table, no_new_table, no_old_or_new, native_misused, trigger_reserved}

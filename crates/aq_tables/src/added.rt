@@ -1,6 +1,6 @@
 //! The faults of the constraints that a CREATE TABLE or an ALTER TABLE adds (PostgreSQL manual, pages CREATE TABLE and ALTER TABLE).
 
-ghost use Rattle.std.specs.Prelude.{◌≡◌, ◌+◌, [], ◌∷◌, ◌++◌, if◌then◌else◌, codes, filter, map, length, nat_le, not, unwrap_or, IfOk, OnOk};
+ghost use Rattle.std.specs.Prelude.{◌≡◌, ◌+◌, [], ◌∷◌, if◌then◌else◌, codes, filter, map, length, nat_le, not, unwrap_or};
 ghost use Rattle.std.specs.List.{flat_map};
 ghost use Rattle.aq_base.specs.Names.{is_short as short};
 ghost use Rattle.aq_setup.specs.Names.{table_faults as absent};
@@ -18,8 +18,7 @@ use aq_base::{Reference, TableConstraint, TextVal};
 use aq_binder::{columns_known, in_session, table_faults};
 use aq_catalog::Catalog;
 use aq_refusals::{CatFault, constraint_exists, long_name, many_primary_keys, over_limit};
-use std::alloc::{AllocError, Global};
-use std::marker::Model;
+use std::alloc::Global;
 
 fn is_short(name: &TextVal) -> bool
     ensures { result ≡ short name.now }

@@ -1,10 +1,9 @@
 //! What a foreign key refers to, and its faults (PostgreSQL source, tablecmds.c, ATAddForeignKeyConstraint). The catalog has the keys of
 //! the statement itself.
 
-ghost use Rattle.std.specs.Prelude.{◌≡◌, IfOk, zip};
+ghost use Rattle.std.specs.Prelude.{◌≡◌, zip};
 ghost use Rattle.std.specs.List.{list_all};
-ghost use Rattle.aq_catalog.specs.Catalogs.{number_of_column};
-ghost use Rattle.aq_catalog.specs.Catalogs.{primary_cols, is_number_in};
+ghost use Rattle.aq_catalog.specs.Catalogs.{number_of_column, is_number_in};
 ghost use Rattle.aq_setup.specs.References as references;
 ghost use Rattle.aq_refusals.specs.Answers.{Tells};
 ghost use Rattle.aq_tables.specs.Pairs.{fit_at};
@@ -14,7 +13,7 @@ use aq_base::{ColNo, Column, Kind, List, Reference, TextVal};
 use aq_binder::same_kind;
 use aq_catalog::{Catalog, is_column_in, kind_at, number_of_column, number_of_table};
 use aq_refusals::{CatFault, no_primary_key, no_such_key, unequal_columns, unequal_kinds};
-use std::alloc::{AllocError, Global};
+use std::alloc::Global;
 
 fn are_all_in(a: &[ColNo], b: &[ColNo]) -> bool
     ensures { result ≡ list_all (is_number_in b.now) a.now }

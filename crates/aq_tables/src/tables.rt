@@ -1,8 +1,7 @@
 //! The table that a CREATE TABLE makes, and the faults of its columns (PostgreSQL manual, page CREATE TABLE).
 
-ghost use Rattle.std.specs.Prelude.{◌≡◌, [], ◌∷◌, ◌++◌, if◌then◌else◌, codes, map, nat_le, IfOk, OnOk};
-ghost use Rattle.std.specs.List.{flat_map, list_any};
-ghost use Rattle.aq_catalog.specs.Catalogs.{places};
+ghost use Rattle.std.specs.Prelude.{◌≡◌, [], ◌∷◌, ◌++◌, if◌then◌else◌, codes, map, nat_le, IfOk};
+ghost use Rattle.std.specs.List.{flat_map};
 ghost use Rattle.aq_setup.specs.Kinds as kinds;
 ghost use Rattle.aq_refusals.specs.Faults as faults;
 ghost use Rattle.aq_setup.specs.Scopes.{repeats_behind};

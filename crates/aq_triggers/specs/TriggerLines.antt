@@ -6,15 +6,13 @@ use Rattle.aq_base.specs.declared.fault.SqlFault.{SqlFault}
 use Rattle.aq_base.specs.declared.catalog.Decl.{Decl}
 use Rattle.aq_base.specs.declared.catalog.NativeName.{NativeName}
 use Rattle.aq_base.specs.declared.catalog.Constraint.{Constraint}
-use Rattle.aq_catalog.specs.Catalogs.{Catalog, table_columns, table_number}
+use Rattle.aq_catalog.specs.Catalogs.{Catalog, table_columns, table_number, number_of_table, names_taken}
 use Rattle.aq_setup.specs.Scopes.{no_row}
-use Rattle.aq_catalog.specs.Catalogs.{number_of_table}
 use Rattle.aq_setup.specs.Binding.{condition_faults}
 use Rattle.aq_base.specs.declared.expr.Expr.{Expr}
 use Rattle.aq_base.specs.declared.catalog.Column.{Column}
 use Rattle.aq_setup.specs.Names.{unknown, table_faults}
 use Rattle.aq_refusals.specs.Faults.{no_column, trigger_exists, constraint_exists}
-use Rattle.aq_catalog.specs.Catalogs.{names_taken}
 use Rattle.aq_setup.specs.Triggers.{Wanted, triggers_taken, update_columns, function_faults, transition_op_faults, when_row_faults, native_faults, when_faults, function_body_faults}
 
 abbrev pub trigger_named : Catalog → Wanted → List SqlFault

@@ -1,8 +1,7 @@
 use Rattle.std.proofs.Common.{ap, ◌∙◌, List, map, option_map}
 use Rattle.aq_base.specs.declared.catalog.Column.{Column}
-use Rattle.aq_catalog.specs.Catalogs.{table_columns}
+use Rattle.aq_catalog.specs.Catalogs.{table_columns, number_of_column, number_of_table}
 use Rattle.aq_setup.specs.Scopes.{Setting}
-use Rattle.aq_catalog.specs.Catalogs.{number_of_column, number_of_table}
 use Rattle.aq_binder.proofs.BoundBodies.{same_insert}
 use Rattle.aq_binder.proofs.binding.bound_insert.Goals as goal
 

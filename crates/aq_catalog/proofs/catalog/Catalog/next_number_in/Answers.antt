@@ -1,7 +1,6 @@
 use Rattle.std.proofs.Common.{find, get_or, ap, sym, subst, ◌∙◌}
-use Rattle.aq_catalog.specs.Catalogs.{constraint_names, constraints_named}
+use Rattle.aq_catalog.specs.Catalogs.{constraint_names, constraints_named, names_in}
 use Rattle.aq_catalog.specs.Numbered.{AreTaken, is_of}
-use Rattle.aq_catalog.specs.Catalogs.{names_in}
 use Rattle.aq_catalog.proofs.Numbering.{lesser_taken}
 use Rattle.aq_catalog.proofs.catalog.Catalog.next_number_in.Goals as goal
 
