@@ -30,24 +30,24 @@ fn catalog_of(alloc: Global, setup: &Script) -> Option<Catalog> {
     Some(catalog)
 }
 
-/// The catalog that a script's setup makes.
-pub(crate) fn made(alloc: Global, script: &str) -> Option<Catalog> {
+// The catalog that a script's setup makes.
+fn made(alloc: Global, script: &str) -> Option<Catalog> {
     match read_script(alloc, script.as_bytes()) {
         Ok(setup) => catalog_of(alloc, &setup),
         Err(_) => None,
     }
 }
 
-/// The script of one session with a statement.
-pub(crate) fn session_of(alloc: Global, statement: &str) -> Option<Script> {
+// The script of one session with a statement.
+fn session_of(alloc: Global, statement: &str) -> Option<Script> {
     let Ok(text) = format!(in alloc; "\\session a {statement};") else {
         return None;
     };
     read_script(alloc, text.as_bytes()).ok()
 }
 
-/// The first statement of the first session.
-pub(crate) fn first_statement(script: &Script) -> Option<&Statement> {
+// The first statement of the first session.
+fn first_statement(script: &Script) -> Option<&Statement> {
     let session = script.sessions.as_slice().first()?;
     let placed = session.statements.as_slice().first()?;
     Some(&placed.statement)
@@ -164,28 +164,37 @@ fn bound_told(alloc: Global, bound: &Bound) -> Result<String, NoMemory> {
     }
 }
 
-/// What a statement of a session is bound to.
-pub(crate) fn bound(
-    alloc: Global,
-    catalog: &Catalog,
-    statement: &str,
-) -> Option<Result<Bound, CatFault>> {
+// What a statement of a session is bound to.
+fn bound(alloc: Global, catalog: &Catalog, statement: &str) -> Option<Result<Bound, CatFault>> {
     let script = session_of(alloc, statement)?;
     let statement = first_statement(&script)?;
     Some(catalog.bind(alloc, statement))
+}
+
+/// What a statement of a session is bound to over the catalog of a setup.
+pub(crate) fn bound_over(
+    alloc: Global,
+    setup: &str,
+    statement: &str,
+) -> Option<Result<Bound, CatFault>> {
+    let catalog = made(alloc, setup)?;
+    bound(alloc, &catalog, statement)
+}
+
+fn answer_told(alloc: Global, answer: &Result<Bound, CatFault>) -> Result<String, NoMemory> {
+    match answer {
+        Ok(bound) => bound_told(alloc, bound),
+        Err(CatFault::Sql(fault)) => fault.text.as_str().to_string(alloc),
+        Err(CatFault::NoMemory) => Err(NoMemory),
+    }
 }
 
 struct Binding;
 
 impl Subject for Binding {
     fn answer(&self, alloc: Global, question: &str) -> Result<String, NoMemory> {
-        let Some(catalog) = made(alloc, SETUP) else {
-            return "no catalog".to_string(alloc);
-        };
-        match bound(alloc, &catalog, question) {
-            Some(Ok(bound)) => bound_told(alloc, &bound),
-            Some(Err(CatFault::Sql(fault))) => fault.text.as_str().to_string(alloc),
-            Some(Err(CatFault::NoMemory)) => Err(NoMemory),
+        match &bound_over(alloc, SETUP, question) {
+            Some(answer) => answer_told(alloc, answer),
             None => "no statement".to_string(alloc),
         }
     }

@@ -1,6 +1,6 @@
 //! Values of expressions, and what a column keeps.
 
-use crate::binding::{bound, made};
+use crate::binding::bound_over;
 use crate::table::{Subject, first_wrong};
 use aq_base::{
     Bound, BoundExpr, BoundGiven, BoundInsert, BoundSource, ColNo, Kind, List, NoMemory, Op, Row,
@@ -87,16 +87,20 @@ fn condition_of(alloc: Global, condition: &Option<BoundExpr>) -> Result<String, 
 }
 
 // The truth of a SELECT's condition, the first value of an INSERT.
+fn bound_told(alloc: Global, bound: &Bound) -> Result<String, NoMemory> {
+    match bound {
+        Bound::Select(select) => condition_of(alloc, &select.condition),
+        Bound::Insert(insert) => value_of(alloc, insert),
+        _ => "another form".to_string(alloc),
+    }
+}
+
 struct Values;
 
 impl Subject for Values {
     fn answer(&self, alloc: Global, question: &str) -> Result<String, NoMemory> {
-        let Some(catalog) = made(alloc, SETUP) else {
-            return "no catalog".to_string(alloc);
-        };
-        match bound(alloc, &catalog, question) {
-            Some(Ok(Bound::Select(select))) => condition_of(alloc, &select.condition),
-            Some(Ok(Bound::Insert(insert))) => value_of(alloc, &insert),
+        match &bound_over(alloc, SETUP, question) {
+            Some(Ok(bound)) => bound_told(alloc, bound),
             _ => "not bound".to_string(alloc),
         }
     }
