@@ -38,16 +38,16 @@ fn made(alloc: Global, script: &str) -> Option<Catalog> {
     }
 }
 
-// The script of one session with a statement.
-fn session_of(alloc: Global, statement: &str) -> Option<Script> {
+/// The script of one session with a statement.
+pub(crate) fn session_of(alloc: Global, statement: &str) -> Option<Script> {
     let Ok(text) = format!(in alloc; "\\session a {statement};") else {
         return None;
     };
     read_script(alloc, text.as_bytes()).ok()
 }
 
-// The first statement of the first session.
-fn first_statement(script: &Script) -> Option<&Statement> {
+/// The first statement of the first session.
+pub(crate) fn first_statement(script: &Script) -> Option<&Statement> {
     let session = script.sessions.as_slice().first()?;
     let placed = session.statements.as_slice().first()?;
     Some(&placed.statement)
@@ -193,10 +193,10 @@ struct Binding;
 
 impl Subject for Binding {
     fn answer(&self, alloc: Global, question: &str) -> Result<String, NoMemory> {
-        match &bound_over(alloc, SETUP, question) {
-            Some(answer) => answer_told(alloc, answer),
-            None => "no statement".to_string(alloc),
-        }
+        let Some(answer) = bound_over(alloc, SETUP, question) else {
+            return "no statement".to_string(alloc);
+        };
+        answer_told(alloc, &answer)
     }
 }
 

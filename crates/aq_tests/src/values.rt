@@ -55,7 +55,8 @@ fn outcome_told(alloc: Global, outcome: Result<Value, EvalFault>) -> Result<Stri
 
 // The truth of a condition, of a copy of it.
 fn truth_of(alloc: Global, condition: &BoundExpr) -> Result<String, NoMemory> {
-    match truth(alloc, &copy_bound(alloc, condition)?, &NOWHERE) {
+    let copy = copy_bound(alloc, condition)?;
+    match truth(alloc, &copy, &NOWHERE) {
         Ok(known) => truth_told(known).to_string(alloc),
         Err(EvalFault::OutOfRange { kind }) => kind_told(kind).to_string(alloc),
         Err(EvalFault::NoMemory) => Err(NoMemory),
@@ -99,9 +100,12 @@ struct Values;
 
 impl Subject for Values {
     fn answer(&self, alloc: Global, question: &str) -> Result<String, NoMemory> {
-        match &bound_over(alloc, SETUP, question) {
-            Some(Ok(bound)) => bound_told(alloc, bound),
-            _ => "not bound".to_string(alloc),
+        let Some(answer) = bound_over(alloc, SETUP, question) else {
+            return "no statement".to_string(alloc);
+        };
+        match answer {
+            Ok(bound) => bound_told(alloc, &bound),
+            Err(_) => "refused".to_string(alloc),
         }
     }
 }
@@ -165,7 +169,8 @@ impl Subject for Leaves {
     fn answer(&self, alloc: Global, question: &str) -> Result<String, NoMemory> {
         let mut row = List::new(alloc);
         row.push(Value::Int(7))?;
-        outcome_told(alloc, eval(alloc, &leaf_of(question), &in_update(&row)))
+        let leaf = leaf_of(question);
+        outcome_told(alloc, eval(alloc, &leaf, &in_update(&row)))
     }
 }
 
