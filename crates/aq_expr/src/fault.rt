@@ -5,10 +5,11 @@ ghost use Rattle.aq_expr.specs.declared.fault.EvalFault.TheVariants.{NoMemory};
 
 use aq_base::{Kind, Value};
 use std::alloc::AllocError;
+use std::fmt;
 use thiserror::Error;
 
 /// Why an expression has no value.
-#[derive(Debug, Drop, Error)]
+#[derive(Drop, Error)]
 pub enum EvalFault {
     /// Memory ran out.
     #[error("out of memory")]
@@ -16,6 +17,13 @@ pub enum EvalFault {
     /// A number is out of the range of a kind, integer or bigint.
     #[error("out of range")]
     OutOfRange { kind: Kind },
+}
+
+/// The text of the fault.
+impl fmt::Debug for EvalFault {
+    fn fmt<W: fmt::Write>(&self, f: &mut fmt::Formatter<W>) -> fmt::Result {
+        write!(f, "{self}")
+    }
 }
 
 impl From<AllocError> for EvalFault {

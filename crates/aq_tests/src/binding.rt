@@ -30,8 +30,8 @@ fn catalog_of(alloc: Global, setup: &Script) -> Option<Catalog> {
     Some(catalog)
 }
 
-/// The catalog that a script's setup makes.
-pub(crate) fn made(alloc: Global, script: &str) -> Option<Catalog> {
+// The catalog that a script's setup makes.
+fn made(alloc: Global, script: &str) -> Option<Catalog> {
     match read_script(alloc, script.as_bytes()) {
         Ok(setup) => catalog_of(alloc, &setup),
         Err(_) => None,
@@ -164,30 +164,39 @@ fn bound_told(alloc: Global, bound: &Bound) -> Result<String, NoMemory> {
     }
 }
 
-/// What a statement of a session is bound to.
-pub(crate) fn bound(
-    alloc: Global,
-    catalog: &Catalog,
-    statement: &str,
-) -> Option<Result<Bound, CatFault>> {
+// What a statement of a session is bound to.
+fn bound(alloc: Global, catalog: &Catalog, statement: &str) -> Option<Result<Bound, CatFault>> {
     let script = session_of(alloc, statement)?;
     let statement = first_statement(&script)?;
     Some(catalog.bind(alloc, statement))
+}
+
+/// What a statement of a session is bound to over the catalog of a setup.
+pub(crate) fn bound_over(
+    alloc: Global,
+    setup: &str,
+    statement: &str,
+) -> Option<Result<Bound, CatFault>> {
+    let catalog = made(alloc, setup)?;
+    bound(alloc, &catalog, statement)
+}
+
+fn answer_told(alloc: Global, answer: &Result<Bound, CatFault>) -> Result<String, NoMemory> {
+    match answer {
+        Ok(bound) => bound_told(alloc, bound),
+        Err(CatFault::Sql(fault)) => fault.text.as_str().to_string(alloc),
+        Err(CatFault::NoMemory) => Err(NoMemory),
+    }
 }
 
 struct Binding;
 
 impl Subject for Binding {
     fn answer(&self, alloc: Global, question: &str) -> Result<String, NoMemory> {
-        let Some(catalog) = made(alloc, SETUP) else {
-            return "no catalog".to_string(alloc);
+        let Some(answer) = bound_over(alloc, SETUP, question) else {
+            return "no statement".to_string(alloc);
         };
-        match bound(alloc, &catalog, question) {
-            Some(Ok(bound)) => bound_told(alloc, &bound),
-            Some(Err(CatFault::Sql(fault))) => fault.text.as_str().to_string(alloc),
-            Some(Err(CatFault::NoMemory)) => Err(NoMemory),
-            None => "no statement".to_string(alloc),
-        }
+        answer_told(alloc, &answer)
     }
 }
 

@@ -1,7 +1,8 @@
 //! Statements, rows, replies, schedules and lines of a trace printed.
 
+use crate::binding::{first_statement, session_of};
 use crate::table::{Subject, first_wrong};
-use aq_base::{List, NoMemory, ReplyLine, Row, Statement, TextVal, TraceEvent, TraceLine, Value};
+use aq_base::{List, NoMemory, ReplyLine, Row, TextVal, TraceEvent, TraceLine, Value};
 use aq_print::{Runs, print_reply, print_row, print_schedule, print_statement, print_trace};
 use aq_xids::SessNo;
 use std::alloc::Global;
@@ -17,8 +18,18 @@ fn one<T: Drop>(alloc: Global, x: T) -> Result<List<T>, NoMemory> {
     Ok(made)
 }
 
-fn statement(alloc: Global) -> Result<List<u8>, NoMemory> {
-    print_statement(alloc, &Statement::Savepoint(text(alloc, "Select")?))
+// A statement of a session, printed.
+fn print_in_session(alloc: Global, statement: &str) -> Option<Result<List<u8>, NoMemory>> {
+    let script = session_of(alloc, statement)?;
+    let statement = first_statement(&script)?;
+    Some(print_statement(alloc, statement))
+}
+
+fn savepoint(alloc: Global) -> Result<List<u8>, NoMemory> {
+    match print_in_session(alloc, "SAVEPOINT \"Select\"") {
+        Some(printed) => printed,
+        None => Ok(List::new(alloc)),
+    }
 }
 
 // `(7, 'it''s')`
@@ -46,12 +57,14 @@ fn trace(alloc: Global) -> Result<List<u8>, NoMemory> {
 }
 
 fn reply(alloc: Global) -> Result<List<u8>, NoMemory> {
-    print_reply(
-        alloc,
-        &text(alloc, "a")?,
-        2,
-        &ReplyLine::Row(values(alloc)?),
-    )
+    let session = text(alloc, "a")?;
+    let line = ReplyLine::Row(values(alloc)?);
+    print_reply(alloc, &session, 2, &line)
+}
+
+fn row(alloc: Global) -> Result<List<u8>, NoMemory> {
+    let row = values(alloc)?;
+    print_row(alloc, &row)
 }
 
 fn schedule(alloc: Global) -> Result<List<u8>, NoMemory> {
@@ -71,9 +84,9 @@ struct Printed;
 impl Subject for Printed {
     fn answer(&self, alloc: Global, question: &str) -> Result<String, NoMemory> {
         let bytes = match question {
-            "statement" => statement(alloc)?,
+            "statement" => savepoint(alloc)?,
             "trace" => trace(alloc)?,
-            "row" => print_row(alloc, &values(alloc)?)?,
+            "row" => row(alloc)?,
             "reply" => reply(alloc)?,
             "schedule" => schedule(alloc)?,
             _ => List::new(alloc),

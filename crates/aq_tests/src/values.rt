@@ -1,6 +1,6 @@
 //! Values of expressions, and what a column keeps.
 
-use crate::binding::{bound, made};
+use crate::binding::bound_over;
 use crate::table::{Subject, first_wrong};
 use aq_base::{
     Bound, BoundExpr, BoundGiven, BoundInsert, BoundSource, ColNo, Kind, List, NoMemory, Op, Row,
@@ -55,7 +55,8 @@ fn outcome_told(alloc: Global, outcome: Result<Value, EvalFault>) -> Result<Stri
 
 // The truth of a condition, of a copy of it.
 fn truth_of(alloc: Global, condition: &BoundExpr) -> Result<String, NoMemory> {
-    match truth(alloc, &copy_bound(alloc, condition)?, &NOWHERE) {
+    let copy = copy_bound(alloc, condition)?;
+    match truth(alloc, &copy, &NOWHERE) {
         Ok(known) => truth_told(known).to_string(alloc),
         Err(EvalFault::OutOfRange { kind }) => kind_told(kind).to_string(alloc),
         Err(EvalFault::NoMemory) => Err(NoMemory),
@@ -87,17 +88,24 @@ fn condition_of(alloc: Global, condition: &Option<BoundExpr>) -> Result<String, 
 }
 
 // The truth of a SELECT's condition, the first value of an INSERT.
+fn bound_told(alloc: Global, bound: &Bound) -> Result<String, NoMemory> {
+    match bound {
+        Bound::Select(select) => condition_of(alloc, &select.condition),
+        Bound::Insert(insert) => value_of(alloc, insert),
+        _ => "another form".to_string(alloc),
+    }
+}
+
 struct Values;
 
 impl Subject for Values {
     fn answer(&self, alloc: Global, question: &str) -> Result<String, NoMemory> {
-        let Some(catalog) = made(alloc, SETUP) else {
-            return "no catalog".to_string(alloc);
+        let Some(answer) = bound_over(alloc, SETUP, question) else {
+            return "no statement".to_string(alloc);
         };
-        match bound(alloc, &catalog, question) {
-            Some(Ok(Bound::Select(select))) => condition_of(alloc, &select.condition),
-            Some(Ok(Bound::Insert(insert))) => value_of(alloc, &insert),
-            _ => "not bound".to_string(alloc),
+        match answer {
+            Ok(bound) => bound_told(alloc, &bound),
+            Err(_) => "refused".to_string(alloc),
         }
     }
 }
@@ -161,7 +169,8 @@ impl Subject for Leaves {
     fn answer(&self, alloc: Global, question: &str) -> Result<String, NoMemory> {
         let mut row = List::new(alloc);
         row.push(Value::Int(7))?;
-        outcome_told(alloc, eval(alloc, &leaf_of(question), &in_update(&row)))
+        let leaf = leaf_of(question);
+        outcome_told(alloc, eval(alloc, &leaf, &in_update(&row)))
     }
 }
 

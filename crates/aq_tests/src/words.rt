@@ -19,7 +19,8 @@ struct Words;
 
 impl Subject for Words {
     fn answer(&self, alloc: Global, question: &str) -> Result<String, NoMemory> {
-        match command_of(alloc, &list_of(alloc, question)?)? {
+        let words = list_of(alloc, question)?;
+        match command_of(alloc, &words)? {
             Some(Command::Run { trace }) => format!(in alloc; "run, trace {trace}"),
             Some(Command::Replay { trace }) => format!(in alloc; "replay, trace {trace}"),
             Some(Command::Check) => "check".to_string(alloc),
