@@ -102,20 +102,19 @@ abbrev pub from_left : {A : Type 0} → (Expr → A → Expr) → Expr → List 
 from_left f e [] = e
 from_left f e (x ∷ others) = from_left f (f e x) others
 
--- operands of one operator, from the left
-abbrev pub joined : BinaryOperator → Expr → List Expr → Expr
-joined operator e others = from_left (λ left right. Binary left operator right) e others
+-- an operand with an operator and another operand behind it
+abbrev pub with_right : BinaryOperator → Expr → Expr → Expr
+with_right operator left right = Binary left operator right
 
 unfoldable pub signed : Scope → Rule Expr
 signed scope = Both (before Negate) (Many (Sign Minus ∷ []) [] (λ signs. signs) (sign Minus)) (atom scope)
 
 unfoldable pub product : Scope → Rule Expr
-product scope = Both (joined Multiply) (signed scope) (Many (Sign Times ∷ []) [] (λ others. others) (sign Times ▸ signed scope))
+product scope = Both (from_left (with_right Multiply)) (signed scope) (Many (Sign Times ∷ []) [] (λ others. others) (sign Times ▸ signed scope))
 
 unfoldable pub sum_sign : Rule BinaryOperator
 sum_sign = Either (Sign Plus ∷ []) (Token (Sign Plus) (λ token. Add)) (Token (Sign Minus) (λ token. Subtract))
 
--- an operand with an operator and another behind it
 abbrev pub with_operand : Expr → BinaryOperator × Expr → Expr
 with_operand e (operator, right) = Binary e operator right
 
@@ -169,10 +168,10 @@ unfoldable pub negation : Scope → Rule Expr
 negation scope = Both (before Not) (Many (Keyword (codes "not") ∷ []) [] (λ words. words) (word (codes "not"))) (test scope)
 
 unfoldable pub conjunction : Scope → Rule Expr
-conjunction scope = Both (joined And) (negation scope) (Many (Keyword (codes "and") ∷ []) [] (λ others. others) (word (codes "and") ▸ negation scope))
+conjunction scope = Both (from_left (with_right And)) (negation scope) (Many (Keyword (codes "and") ∷ []) [] (λ others. others) (word (codes "and") ▸ negation scope))
 
 unfoldable pub expression : Scope → Rule Expr
-expression scope = Both (joined Or) (conjunction scope) (Many (Keyword (codes "or") ∷ []) [] (λ others. others) (word (codes "or") ▸ conjunction scope))
+expression scope = Both (from_left (with_right Or)) (conjunction scope) (Many (Keyword (codes "or") ∷ []) [] (λ others. others) (word (codes "or") ▸ conjunction scope))
 
 abbrev pub expression_limit : ℕ
 expression_limit = 1000

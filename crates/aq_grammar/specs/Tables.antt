@@ -144,17 +144,16 @@ matching =
 unfoldable pub setting : Rule Action
 setting = word (codes "set") ▸ Either (Keyword (codes "null") ∷ []) (says (codes "null") SetNull) (says (codes "default") SetDefault)
 
--- an action that sets no column, or another
-abbrev pub action_or : {A : Type 0} → (Action → A) → Rule A → Rule A
-action_or f setting =
-    Either (Keyword (codes "no") ∷ []) (word (codes "no") ▸ says (codes "action") (f NoAction))
-    (Either (Keyword (codes "restrict") ∷ []) (says (codes "restrict") (f Restrict))
-    (Either (Keyword (codes "cascade") ∷ []) (says (codes "cascade") (f Cascade))
-    setting))
+-- an action that sets no column
+unfoldable pub plain_action : Rule Action
+plain_action =
+    Either (Keyword (codes "no") ∷ []) (word (codes "no") ▸ says (codes "action") NoAction)
+    (Either (Keyword (codes "restrict") ∷ []) (says (codes "restrict") Restrict) (says (codes "cascade") Cascade))
 
 -- what a deletion does, and the list of the columns that it sets
 unfoldable pub deletion : Rule (Action × Option (List Bytes))
-deletion = action_or (λ action. (action, None)) (Both (λ action columns. (action, columns)) setting column_list)
+deletion =
+    Either (Keyword (codes "set") ∷ []) (Both (λ action columns. (action, columns)) setting column_list) (mapped (λ action. (action, None)) plain_action)
 
 -- a list of columns stands behind ON DELETE alone
 abbrev pub update_list : Bytes → List Refusal
@@ -173,7 +172,7 @@ update_setting =
     (end_without (update_list default_list) (says (codes "default") SetDefault))
 
 unfoldable pub action : Rule Action
-action = action_or (λ action. action) update_setting
+action = Either (Keyword (codes "set") ∷ []) update_setting plain_action
 
 -- what the other change does, where it is given
 abbrev pub action_on : {A : Type 0} → Bytes → Rule A → A → Rule A

@@ -2,6 +2,7 @@
 use Rattle.std.proofs.Common.{◌≡◌, ◌<◌, ◌≤◌, ◌||◌, Bool, true, false, List, [], ◌∷◌, length, drop, Option, refl, sym, ap, ◌∙◌, subst, arith}
 use Rattle.std.proofs.lemmas.Bool.{cond-true}
 use Rattle.aq_base.specs.declared.expr.Expr.{Expr}
+use Rattle.aq_base.specs.declared.expr.BinaryOperator.{BinaryOperator}
 use Rattle.aq_lex.specs.Lexemes.{PlacedLexeme}
 use Rattle.aq_grammar.specs.Terminals.{Terminal, fits, begins}
 use Rattle.aq_grammar.specs.Rules.{Nonterminal, ValueOf, Rule, Done, Token, Both, Either, Many, Differing, Call, Unless, Limited, Expression, refused}
@@ -149,9 +150,9 @@ unfolding rules
 expression_is scope tokens = is_read_so (Expression scope) tokens
 
 -- a sign of a sum is a token
-pub sum_sign_shorter : (tokens rest : List PlacedLexeme) (subtracts : Bool) → reads sum_sign tokens ≡ Read subtracts rest → length rest < length tokens
+pub sum_sign_shorter : (tokens rest : List PlacedLexeme) (operator : BinaryOperator) → reads sum_sign tokens ≡ Read operator rest → length rest < length tokens
 unfolding sum_sign
-sum_sign_shorter tokens rest subtracts read = reads_shorten sum_sign refl refl tokens rest subtracts read
+sum_sign_shorter tokens rest operator read = reads_shorten sum_sign refl refl tokens rest operator read
 
 -- what is told behind IS
 abbrev pub negated_test : Scope → Rule (Bool × Option Expr)
