@@ -7,8 +7,9 @@ use Rattle.aq_grammar.specs.Forms.{word, sign}
 use Rattle.aq_grammar.specs.Nonterminals.{reads}
 use Rattle.aq_grammar.specs.Shorter.{token_is_shorter}
 use Rattle.aq_grammar.specs.Expressions.{with_right, with_operand, tested, signed, product, sum_sign, summand, sum, comparison_sign, comparison, negated, null_or_distinct, is_test, test, negation, conjunction, expression}
+use Rattle.aq_grammar.proofs.NoLonger.{no_longer}
 use Rattle.aq_grammar.proofs.Loops.{gives_fault, fails_as, fails_on}
-use Rattle.aq_parse_expressions.proofs.Levels.{level_begins, level_goes_on, level_fails, level_ends, behind_one, one_shorter, right_shorter, simple_goes_on, simple_fails, expression_is, sum_sign_shorter, no_longer, both_read, second_fails, negated_test}
+use Rattle.aq_parse_expressions.proofs.Levels.{level_begins, level_goes_on, level_fails, level_ends, behind_one, one_shorter, right_shorter, simple_goes_on, simple_fails, expression_is, sum_sign_shorter, both_read, second_fails, negated_test}
 use Rattle.aq_parse_expressions.proofs.expression.+expression.Goals as goal
 
 pub product-factors-init : goal.product-factors-init
