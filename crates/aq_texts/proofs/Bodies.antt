@@ -35,10 +35,10 @@ set_constraints_is s = ap body_statement (sym (bodies.rolls-SetConstraints s)) �
 pub else_if_is : (branch : ElseIf) → else_if branch ≡ say (codes "ELSIF") ∷ (expression branch.condition ++ say (codes "THEN") ∷ block branch.then)
 else_if_is branch = fold_out-ElseIf (List Written) (List Written) (List Written) body_step else_if_step handler_step branch
 
--- each branch's tokens, one behind the other
-flattened : (branches : List ElseIf) → flat_map (λ tokens. tokens) (map else_if branches) ≡ flat_map else_if branches
-flattened [] = refl
-flattened (branch ∷ branches) = ap (λ tokens. else_if branch ++ tokens) (flattened branches)
+-- the tokens of each, one behind the other
+flattened : {A : Type 0} (print : A → List Written) (xs : List A) → flat_map (λ tokens. tokens) (map print xs) ≡ flat_map print xs
+flattened print [] = refl
+flattened print (x ∷ xs) = ap (λ tokens. print x ++ tokens) (flattened print xs)
 
 abbrev pub behind_if : Expr → List BodyStatement → List Written → List Written → List Written
 behind_if condition first others last =
@@ -49,10 +49,10 @@ pub if_is : (condition : Expr) (first : List BodyStatement) (others : List ElseI
     ≡ behind_if condition first (flat_map else_if others) (perhaps (λ found. say (codes "ELSE") ∷ block found) last)
 if_is condition first others None =
     ap body_statement (sym (bodies.rolls-If condition first others None)) ∙ fold-roll-BodyStatement (List Written) (List Written) (List Written) body_step else_if_step handler_step _
-    ∙ ap (λ tokens. behind_if condition first tokens []) (flattened others)
+    ∙ ap (λ tokens. behind_if condition first tokens []) (flattened else_if others)
 if_is condition first others (Some found) =
     ap body_statement (sym (bodies.rolls-If condition first others (Some found))) ∙ fold-roll-BodyStatement (List Written) (List Written) (List Written) body_step else_if_step handler_step _
-    ∙ ap (λ tokens. behind_if condition first tokens (say (codes "ELSE") ∷ block found)) (flattened others)
+    ∙ ap (λ tokens. behind_if condition first tokens (say (codes "ELSE") ∷ block found)) (flattened else_if others)
 
 pub handler_is : (h : Handler) → handler h ≡ say (codes "WHEN") ∷ (separated (say (codes "OR")) condition h.conditions ++ say (codes "THEN") ∷ block h.statements)
 handler_is h = fold_out-Handler (List Written) (List Written) (List Written) body_step else_if_step handler_step h
@@ -62,3 +62,8 @@ pub block_is : (statements : List BodyStatement) (handlers : List Handler)
 block_is statements handlers =
     ap body_statement (sym (bodies.rolls-Block statements handlers))
     ∙ fold-roll-BodyStatement (List Written) (List Written) (List Written) body_step else_if_step handler_step _
+
+-- EXCEPTION stands before handlers where there are any
+pub exception_of_some : (handlers : List Handler) → (handlers ≡ [] → ⊥) → say (codes "EXCEPTION") ∷ flat_map handler handlers ≡ exception (map handler handlers)
+exception_of_some [] some = absurd (some refl)
+exception_of_some (first ∷ others) some = ap (λ tokens. say (codes "EXCEPTION") ∷ tokens) (sym (flattened handler (first ∷ others)))
