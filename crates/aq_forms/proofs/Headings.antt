@@ -1,7 +1,7 @@
 -- The rules of statements have no token that is a heading of a script.
 use Rattle.std.proofs.Common.{◌≡◌, zero, suc, Bool, true, false, ◌&&◌, refl}
 use Rattle.aq_grammar.specs.declared.scope.Scope.TheVariants.{InStatement, InCondition, InCode}
-use Rattle.aq_grammar.specs.Terminals.{Terminal, Keyword, Name, NameOf, NameBut, PlainName, Number, Count, Literal, LiteralInCode, Message, Sign, Heading}
+use Rattle.aq_grammar.specs.Terminals.{Terminal, Keyword, Name, NameOf, NameBut, PlainName, Number, Count, Literal, LiteralInCode, Message, StateCode, Sign, Heading}
 use Rattle.aq_grammar.specs.Rules.{Nonterminal, Expression, Block, ColumnConstraints, ReferenceEnd, Rule, Done, Token, Both, Either, Many, Differing, Call, Unless, Limited}
 use Rattle.aq_grammar.specs.Nonterminals.{rules}
 use Rattle.aq_grammar.specs.Statements.{setup_statement, session_statement, supported_in_setup, supported_in_session, created, block_statement}
@@ -25,6 +25,7 @@ is_no_heading (Heading directive) = false
 is_no_heading Literal = true
 is_no_heading LiteralInCode = true
 is_no_heading Message = true
+is_no_heading StateCode = true
 is_no_heading (Sign symbol) = true
 
 -- the rule has no token that is one
