@@ -20,7 +20,7 @@ use Rattle.aq_forms.proofs.Combining.{Anything, MayFollow, Nothing_refused}
 use Rattle.aq_forms.proofs.Composing.{Rest, Prints, Symbol_next, before_symbol, nothing_prints, word_then, both_print, both_print_any, mapped_prints, left_prints, right_prints, unless_prints, prints_as}
 use Rattle.aq_forms.proofs.Validity.{both_valid, then_valid, first_valid}
 use Rattle.aq_forms.proofs.Timing.{IsTiming, not_deferrable_is, deferring_is, deferring_prints}
-use Rattle.aq_forms.proofs.Constraints.{IsConstant, constant_valid, constant_prints, IsReference, PerhapsNamed, target_valid, target_part, target_tokens, target_prints, No_partial_match, constraint_name_valid, constraint_name_prints}
+use Rattle.aq_forms.proofs.Constraints.{IsConstant, constant_valid, constant_prints, IsReference, PerhapsNamed, target_valid, target_part, target_tokens, target_prints, Behind_target, no_list, constraint_name_valid, constraint_name_prints}
 
 -- ---- what the rules give
 
@@ -73,7 +73,7 @@ module _ (calls : (n : Nonterminal) → Trees (ValueOf n)) (called : (d : Bool) 
   named_valid d named (inr (inr derived)) =
       both_valid (NamedConstrained d)
       (λ aimed others e c name own.
-      let targeted = target_valid calls aimed e in let rest = ended_valid d others c in (own, (targeted.0, targeted.1, rest.0), rest.1)) derived
+      let targeted = target_valid calls aimed e in let rest = ended_valid d others c in (own, (targeted.0, targeted.1, targeted.2, rest.0), rest.1)) derived
 
   perhaps_named_valid : (d : Bool) (found : List ColumnConstraint) → DerivesBy calls (perhaps_named d) found → AreConstraints found d
   perhaps_named_valid d found (inl derived) =
@@ -138,23 +138,23 @@ all_tokens found = flat_map column_constraint found
 abbrev pub Begins_well : Rest
 Begins_well rest =
     Nothing_refused other_constraints rest × Nothing_refused behind_key rest × Nothing_refused (not_valid ∷ []) rest
-    × Nothing_refused (not_valid ∷ other_constraints) rest × No_partial_match rest
+    × Nothing_refused (not_valid ∷ other_constraints) rest × Behind_target rest
 
 begin_well : (found : List ColumnConstraint) → MayFollow (all_tokens found) Symbol_next Begins_well
-begin_well [] lines at rest next = before_symbol Begins_well (λ line symbol others. (refl, refl, refl, refl, refl)) rest next
-begin_well (NotNull ∷ others) lines at rest next = (refl, refl, refl, refl, refl)
-begin_well (Default value ∷ others) lines at rest next = (refl, refl, refl, refl, refl)
-begin_well (PrimaryKey None ∷ others) lines at rest next = (refl, refl, refl, refl, refl)
-begin_well (PrimaryKey (Some name) ∷ others) lines at rest next = (refl, refl, refl, refl, refl)
-begin_well (Unique None ∷ others) lines at rest next = (refl, refl, refl, refl, refl)
-begin_well (Unique (Some name) ∷ others) lines at rest next = (refl, refl, refl, refl, refl)
-begin_well (References None reference ∷ others) lines at rest next = (refl, refl, refl, refl, refl)
-begin_well (References (Some name) reference ∷ others) lines at rest next = (refl, refl, refl, refl, refl)
+begin_well [] lines at rest next = before_symbol Begins_well (λ line symbol others apart. (refl, refl, refl, refl, (refl, no_list symbol apart line others))) rest next
+begin_well (NotNull ∷ others) lines at rest next = (refl, refl, refl, refl, (refl, refl))
+begin_well (Default value ∷ others) lines at rest next = (refl, refl, refl, refl, (refl, refl))
+begin_well (PrimaryKey None ∷ others) lines at rest next = (refl, refl, refl, refl, (refl, refl))
+begin_well (PrimaryKey (Some name) ∷ others) lines at rest next = (refl, refl, refl, refl, (refl, refl))
+begin_well (Unique None ∷ others) lines at rest next = (refl, refl, refl, refl, (refl, refl))
+begin_well (Unique (Some name) ∷ others) lines at rest next = (refl, refl, refl, refl, (refl, refl))
+begin_well (References None reference ∷ others) lines at rest next = (refl, refl, refl, refl, (refl, refl))
+begin_well (References (Some name) reference ∷ others) lines at rest next = (refl, refl, refl, refl, (refl, refl))
 
-end_begins : (t : Decl) → IsTiming t → (found : List ColumnConstraint) → MayFollow (timing t ++ all_tokens found) Symbol_next No_partial_match
+end_begins : (t : Decl) → IsTiming t → (found : List ColumnConstraint) → MayFollow (timing t ++ all_tokens found) Symbol_next Behind_target
 end_begins t (inl e) found lines at rest next = rw e (begin_well found lines at rest next).4
-end_begins t (inr (inl e)) found lines at rest next = rw e refl
-end_begins t (inr (inr e)) found lines at rest next = rw e refl
+end_begins t (inr (inl e)) found lines at rest next = rw e (refl, refl)
+end_begins t (inr (inr e)) found lines at rest next = rw e (refl, refl)
 
 -- the tokens of a reference and those behind it: its target, and what comes behind that
 reference_and : (r : Reference) (ws : List Written) → reference_tokens r ++ ws ≡ target_tokens (target_part r) ++ (timing r.timing ++ ws)
@@ -205,8 +205,8 @@ unfolding named_constraint
 references_print d r others valid printed =
     right_prints (right_prints
     (prints_as
-    (both_print {f = λ target others name. references_then name target others} (target_prints (target_part r) (valid.0, valid.1)) (call_ends d r.timing others valid.2 printed)
-    (end_begins r.timing valid.2 others)) (reference_and r (all_tokens others))))
+    (both_print {f = λ target others name. references_then name target others} (target_prints (target_part r) (valid.0, valid.1, valid.2)) (call_ends d r.timing others valid.3 printed)
+    (end_begins r.timing valid.3 others)) (reference_and r (all_tokens others))))
 
 -- with its name, if it has one
 named_prints :

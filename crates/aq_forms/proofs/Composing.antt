@@ -1,12 +1,12 @@
 -- How the parts of a rule are put together, as in Combining, where the rule stands in the type, so that antt finds it.
-use Rattle.std.proofs.Common.{◌≡◌, ℕ, true, Bool, ◌&&◌, List, [], ◌∷◌, ◌++◌, map, Some, None}
+use Rattle.std.proofs.Common.{◌≡◌, ℕ, true, false, refl, Bool, ◌&&◌, List, [], ◌∷◌, ◌++◌, map, Some, None}
 use Rattle.std.proofs.lemmas.Bool.{and_parts}
 use Rattle.std.specs.Char.{to_ascii_lowercase}
 use Rattle.aq_base.specs.Names.{Text as Bytes, same_text}
 use Rattle.aq_lex.specs.declared.token.Symbol.{Symbol as SymbolName}
 use Rattle.aq_lex.specs.Lexemes.{PlacedLexeme, Symbol}
-use Rattle.aq_lex.specs.declared.token.Symbol.TheVariants.{CloseParen, Semicolon}
-use Rattle.aq_grammar.specs.Terminals.{Terminal}
+use Rattle.aq_lex.specs.declared.token.Symbol.TheVariants.{OpenParen, CloseParen, Semicolon}
+use Rattle.aq_grammar.specs.Terminals.{Terminal, same_symbol}
 use Rattle.aq_grammar.specs.Rules.{Refusal, Rule, Done, Both, Either, Unless}
 use Rattle.aq_grammar.specs.Forms.{word, ◌▸◌, mapped, says, optional, in_parentheses}
 use Rattle.aq_grammar.specs.Changes.{end_without}
@@ -95,15 +95,17 @@ parentheses_print {a = a} {x = x} {ws = ws} {First = First} {Behind = Behind} fi
 pub prints_as : {A : Type 0} {a : Rule A} {x : A} {ws vs : List Written} {Behind : Rest} → Prints a x ws Behind → vs ≡ ws → Prints a x vs Behind
 prints_as {a = a} {x = x} {ws = ws} {vs = vs} {Behind = Behind} first e = rw e first
 
--- a symbol, which none of the refused words is
+-- a symbol but `(`, which none of the refused words is
 abbrev pub Symbol_next : Rest
-Symbol_next rest = (line : ℕ) × (symbol : SymbolName) × (others : List PlacedLexeme) × (rest ≡ record { line = line; lexeme = Symbol symbol } ∷ others)
+Symbol_next rest =
+    (line : ℕ) × (symbol : SymbolName) × (others : List PlacedLexeme) × (rest ≡ record { line = line; lexeme = Symbol symbol } ∷ others)
+    × (same_symbol symbol OpenParen ≡ false)
 
 pub semicolon_is_symbol : (rest : List PlacedLexeme) → Semicolon_next rest → Symbol_next rest
-semicolon_is_symbol rest (line, others, e) = (line, Semicolon, others, e)
+semicolon_is_symbol rest (line, others, e) = (line, Semicolon, others, e, refl)
 
--- what holds where any symbol comes behind
+-- what holds where any symbol but `(` comes behind
 pub before_symbol :
-    (P : Rest) → ((line : ℕ) (symbol : SymbolName) (others : List PlacedLexeme) → P (record { line = line; lexeme = Symbol symbol } ∷ others)) → (rest : List PlacedLexeme)
-    → Symbol_next rest → P rest
-before_symbol P h rest (line, symbol, others, e) = rw e (h line symbol others)
+    (P : Rest) → ((line : ℕ) (symbol : SymbolName) (others : List PlacedLexeme) → same_symbol symbol OpenParen ≡ false → P (record { line = line; lexeme = Symbol symbol } ∷ others))
+    → (rest : List PlacedLexeme) → Symbol_next rest → P rest
+before_symbol P h rest (line, symbol, others, e, apart) = rw e (h line symbol others apart)

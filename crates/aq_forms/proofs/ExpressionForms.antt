@@ -3,7 +3,10 @@ use Rattle.std.proofs.Common.{◌≡◌, refl, sym, subst, true, false, Bool, Li
 use Rattle.aq_base.specs.declared.expr.Expr.{Expr}
 use Rattle.aq_base.specs.declared.expr.Comparison.{Comparison}
 use Rattle.aq_base.specs.declared.expr.Comparison.TheVariants.{Equal as EqualTo, Unequal as UnequalTo, Less as LessThan, AtMost as AtMostAs, Greater as GreaterThan, AtLeast as AtLeastAs}
-use Rattle.aq_base.specs.declared.expr.Expr.TheVariants.{Negate, Multiply, Add, Subtract, Compare, IsNull, IsNotNull, IsDistinct, IsNotDistinct, Not, And, Or}
+use Rattle.aq_base.specs.declared.expr.Expr.TheVariants.{Unary, Binary}
+use Rattle.aq_base.specs.declared.expr.UnaryOperator.TheVariants.{Negate, Not, IsNull, IsNotNull}
+use Rattle.aq_base.specs.declared.expr.BinaryOperator.{BinaryOperator}
+use Rattle.aq_base.specs.declared.expr.BinaryOperator.TheVariants.{Multiply, Add, Subtract, Compare, IsDistinct, IsNotDistinct, And, Or}
 use Rattle.aq_lex.specs.Lexemes.{PlacedLexeme}
 use Rattle.aq_lex.specs.declared.token.Symbol.{Symbol}
 use Rattle.aq_lex.specs.declared.token.Symbol.TheVariants.{OpenParen, Plus, Minus, Times, Equal, Unequal, Less, AtMost, Greater, AtLeast}
@@ -12,10 +15,10 @@ use Rattle.aq_grammar.specs.Terminals.{Keyword, Sign as Mark_kind}
 use Rattle.aq_grammar.specs.Rules.{Rule, Done, Token, Both, Either, Call, Expression}
 use Rattle.aq_grammar.specs.Forms.{word, sign, says, ◌▸◌, mapped, optional, in_parentheses}
 use Rattle.aq_grammar.specs.Nonterminals.{rules}
-use Rattle.aq_grammar.specs.Expressions.{with_summand, compared, compares, tested, comparison_signs, comparison_sign, sum_sign, plain_atom, atom, signed, product, summand, sum, comparison, negated, null_or_distinct, is_test, test, negation, conjunction, expression}
+use Rattle.aq_grammar.specs.Expressions.{with_right, with_operand, compared, compares, tested, comparison_signs, comparison_sign, sum_sign, plain_atom, atom, signed, product, summand, sum, comparison, negated, null_or_distinct, is_test, test, negation, conjunction, expression}
 use Rattle.aq_texts.specs.Written.{Written, say, Mark, Sign}
 use Rattle.aq_texts.specs.Canon.{Operand, operand, printed, expression as expression_tokens, comparison as comparison_token, atom as an_atom, operation as an_operation}
-use Rattle.aq_texts.proofs.Expressions.{negation_is, product_is, sum_is, difference_is, comparison_is, null_test_is, not_null_test_is, distinct_test_is, not_distinct_test_is, not_is, conjunction_is, disjunction_is}
+use Rattle.aq_texts.proofs.Expressions.{unary_is, binary_is}
 use Rattle.aq_forms.proofs.Combining.{IsFree, Anything, done_free, says_free, word_free, symbol_free, minus_free, both_any, behind_word, behind_mark, mapped_free, left_free, right_free, some_free, parentheses_any}
 use Rattle.aq_forms.proofs.Reading.{called_free}
 use Rattle.aq_forms.proofs.ExpressionLevels.{IsPrinted, one_more, one_before, atom_is_signed, atom_is_product, atom_is_sum, atom_is_comparison, atom_is_test, atom_is_negation, atom_is_conjunction, atom_is_expression, signed_is_expression, product_is_expression, sum_is_expression, comparison_is_expression, test_is_expression, negation_is_expression, conjunction_is_expression}
@@ -86,17 +89,17 @@ comparison_sign_free AtMostAs = behind_less AtMostAs (Mark AtMost ∷ []) (this_
 comparison_sign_free GreaterThan = behind_at_most GreaterThan (Mark Greater ∷ []) (this_sign Greater GreaterThan (compares AtLeast AtLeastAs))
 comparison_sign_free AtLeastAs = behind_greater AtLeastAs (Mark AtLeast ∷ []) (symbol_free AtLeast (Mark AtLeast) AtLeastAs Anything refl)
 
-plus_free : IsPrinted sum_sign false (Mark Plus ∷ [])
+plus_free : IsPrinted sum_sign Add (Mark Plus ∷ [])
 unfolding sum_sign
 plus_free =
-    left_free (Mark_kind Plus ∷ []) (Token (Mark_kind Plus) (λ token. false)) (Token (Mark_kind Minus) (λ token. true)) false (Mark Plus ∷ []) Anything
-    (symbol_free Plus (Mark Plus) false Anything refl)
+    left_free (Mark_kind Plus ∷ []) (Token (Mark_kind Plus) (λ token. Add)) (Token (Mark_kind Minus) (λ token. Subtract)) Add (Mark Plus ∷ []) Anything
+    (symbol_free Plus (Mark Plus) Add Anything refl)
 
-minus_sign_free : IsPrinted sum_sign true (Mark Minus ∷ [])
+minus_sign_free : IsPrinted sum_sign Subtract (Mark Minus ∷ [])
 unfolding sum_sign
 minus_sign_free =
-    right_free (Mark_kind Plus ∷ []) (Token (Mark_kind Plus) (λ token. false)) (Token (Mark_kind Minus) (λ token. true)) true (Mark Minus ∷ []) Anything
-    (symbol_free Minus (Mark Minus) true Anything refl)
+    right_free (Mark_kind Plus ∷ []) (Token (Mark_kind Plus) (λ token. Add)) (Token (Mark_kind Minus) (λ token. Subtract)) Subtract (Mark Minus ∷ []) Anything
+    (symbol_free Minus (Mark Minus) Subtract Anything refl)
 
 negated_free : IsPrinted negated true (say (codes "NOT") ∷ [])
 unfolding negated
@@ -134,11 +137,11 @@ module _ (scope : Scope) where
       behind_word (codes "IS") (codes "is") (Both (λ negated right. (negated, right)) negated (null_or_distinct scope)) (found, what) (ws ++ vs) Anything refl refl
       (both_any (λ negated right. (negated, right)) negated (null_or_distinct scope) found what ws vs Anything first second)
 
-  summand_free : (subtracts : Bool) (token : Written) (b : Expr) (vs : List Written) → IsPrinted sum_sign subtracts (token ∷ []) → IsPrinted (product scope) b vs
-      → IsPrinted (summand scope) (subtracts, b) (token ∷ vs)
+  summand_free : (operator : BinaryOperator) (token : Written) (b : Expr) (vs : List Written) → IsPrinted sum_sign operator (token ∷ []) → IsPrinted (product scope) b vs
+      → IsPrinted (summand scope) (operator, b) (token ∷ vs)
   unfolding summand
-  summand_free subtracts token b vs first second =
-      both_any (λ subtracts right. (subtracts, right)) sum_sign (product scope) subtracts b (token ∷ []) vs Anything first second
+  summand_free operator token b vs first second =
+      both_any (λ operator right. (operator, right)) sum_sign (product scope) operator b (token ∷ []) vs Anything first second
 
 -- ---- the forms
 
@@ -160,128 +163,125 @@ module _ (scope : Scope) where
         inner = subst (λ (o : Operand). IsPrinted (atom scope) e (operand o)) (sym is) stands;
       }
 
-  pub negation_printable : (a : Expr) → Printable scope a → Printable scope (Negate a)
+  pub negation_printable : (a : Expr) → Printable scope a → Printable scope (Unary Negate a)
   unfolding signed
   negation_printable a first =
-      let free : IsPrinted (signed scope) (Negate a) (Sign ∷ operand (printed a)) =
+      let free : IsPrinted (signed scope) (Unary Negate a) (Sign ∷ operand (printed a)) =
       one_before Negate (Mark_kind Minus ∷ []) (sign Minus) (atom scope) Sign a (operand (printed a)) (minus_free Anything) first.inner in
-      operation_printable (Negate a) (Sign ∷ operand (printed a)) (negation_is a) (signed_is_expression scope (Negate a) (Sign ∷ operand (printed a)) free)
+      operation_printable (Unary Negate a) (Sign ∷ operand (printed a)) (unary_is Negate a) (signed_is_expression scope (Unary Negate a) (Sign ∷ operand (printed a)) free)
 
-  pub not_printable : (a : Expr) → Printable scope a → Printable scope (Not a)
+  pub not_printable : (a : Expr) → Printable scope a → Printable scope (Unary Not a)
   unfolding negation
   not_printable a first =
-      let free : IsPrinted (negation scope) (Not a) (say (codes "NOT") ∷ operand (printed a)) =
+      let free : IsPrinted (negation scope) (Unary Not a) (say (codes "NOT") ∷ operand (printed a)) =
       one_before Not (Keyword (codes "not") ∷ []) (word (codes "not")) (test scope) (say (codes "NOT")) a (operand (printed a))
       (word_free (codes "NOT") (codes "not") Anything refl refl) (atom_is_test scope a (operand (printed a)) first.inner) in
-      operation_printable (Not a) (say (codes "NOT") ∷ operand (printed a)) (not_is a)
-      (negation_is_expression scope (Not a) (say (codes "NOT") ∷ operand (printed a)) free)
+      operation_printable (Unary Not a) (say (codes "NOT") ∷ operand (printed a)) (unary_is Not a)
+      (negation_is_expression scope (Unary Not a) (say (codes "NOT") ∷ operand (printed a)) free)
 
-  pub product_printable : (a b : Expr) → Printable scope a → Printable scope b → Printable scope (Multiply a b)
+  pub product_printable : (a b : Expr) → Printable scope a → Printable scope b → Printable scope (Binary a Multiply b)
   unfolding product
   product_printable a b first second =
       let tokens : List Written = operand (printed a) ++ (Mark Times ∷ operand (printed b)) in
-      let free : IsPrinted (product scope) (Multiply a b) tokens =
-      one_more Multiply (Mark_kind Times ∷ []) (signed scope) (sign Times ▸ signed scope) a b (operand (printed a)) (Mark Times ∷ operand (printed b))
+      let free : IsPrinted (product scope) (Binary a Multiply b) tokens =
+      one_more (with_right Multiply) (Mark_kind Times ∷ []) (signed scope) (sign Times ▸ signed scope) a b (operand (printed a)) (Mark Times ∷ operand (printed b))
       (atom_is_signed scope a (operand (printed a)) first.inner)
       (behind_mark Times (signed scope) b (operand (printed b)) Anything (atom_is_signed scope b (operand (printed b)) second.inner)) in
-      operation_printable (Multiply a b) tokens (product_is a b) (product_is_expression scope (Multiply a b) tokens free)
+      operation_printable (Binary a Multiply b) tokens (binary_is a Multiply b) (product_is_expression scope (Binary a Multiply b) tokens free)
 
-  pub sum_printable : (a b : Expr) → Printable scope a → Printable scope b → Printable scope (Add a b)
+  summed_printable : (operator : BinaryOperator) (token : Written) (a b : Expr) → printed (Binary a operator b) ≡ an_operation (operand (printed a) ++ (token ∷ operand (printed b)))
+      → IsPrinted sum_sign operator (token ∷ []) → Printable scope a → Printable scope b → Printable scope (Binary a operator b)
   unfolding sum
-  sum_printable a b first second =
-      let tokens : List Written = operand (printed a) ++ (Mark Plus ∷ operand (printed b)) in
-      let free : IsPrinted (sum scope) (Add a b) tokens =
-      one_more with_summand (Mark_kind Plus ∷ Mark_kind Minus ∷ []) (product scope) (summand scope) a (false, b) (operand (printed a)) (Mark Plus ∷ operand (printed b))
+  summed_printable operator token a b is said first second =
+      let tokens : List Written = operand (printed a) ++ (token ∷ operand (printed b)) in
+      let free : IsPrinted (sum scope) (Binary a operator b) tokens =
+      one_more with_operand (Mark_kind Plus ∷ Mark_kind Minus ∷ []) (product scope) (summand scope) a (operator, b) (operand (printed a)) (token ∷ operand (printed b))
       (atom_is_product scope a (operand (printed a)) first.inner)
-      (summand_free scope false (Mark Plus) b (operand (printed b)) plus_free (atom_is_product scope b (operand (printed b)) second.inner)) in
-      operation_printable (Add a b) tokens (sum_is a b) (sum_is_expression scope (Add a b) tokens free)
+      (summand_free scope operator token b (operand (printed b)) said (atom_is_product scope b (operand (printed b)) second.inner)) in
+      operation_printable (Binary a operator b) tokens is (sum_is_expression scope (Binary a operator b) tokens free)
 
-  pub difference_printable : (a b : Expr) → Printable scope a → Printable scope b → Printable scope (Subtract a b)
-  unfolding sum
-  difference_printable a b first second =
-      let tokens : List Written = operand (printed a) ++ (Mark Minus ∷ operand (printed b)) in
-      let free : IsPrinted (sum scope) (Subtract a b) tokens =
-      one_more with_summand (Mark_kind Plus ∷ Mark_kind Minus ∷ []) (product scope) (summand scope) a (true, b) (operand (printed a)) (Mark Minus ∷ operand (printed b))
-      (atom_is_product scope a (operand (printed a)) first.inner)
-      (summand_free scope true (Mark Minus) b (operand (printed b)) minus_sign_free (atom_is_product scope b (operand (printed b)) second.inner)) in
-      operation_printable (Subtract a b) tokens (difference_is a b) (sum_is_expression scope (Subtract a b) tokens free)
+  pub sum_printable : (a b : Expr) → Printable scope a → Printable scope b → Printable scope (Binary a Add b)
+  sum_printable a b first second = summed_printable Add (Mark Plus) a b (binary_is a Add b) plus_free first second
 
-  pub comparison_printable : (a : Expr) (found : Comparison) (b : Expr) → Printable scope a → Printable scope b → Printable scope (Compare a found b)
+  pub difference_printable : (a b : Expr) → Printable scope a → Printable scope b → Printable scope (Binary a Subtract b)
+  difference_printable a b first second = summed_printable Subtract (Mark Minus) a b (binary_is a Subtract b) minus_sign_free first second
+
+  pub comparison_printable : (a : Expr) (found : Comparison) (b : Expr) → Printable scope a → Printable scope b → Printable scope (Binary a (Compare found) b)
   unfolding comparison
   comparison_printable a found b first second =
       let tokens : List Written = operand (printed a) ++ (comparison_token found ∷ operand (printed b)) in
       let right : Rule (Comparison × Expr) = Both (λ sign right. (sign, right)) comparison_sign (sum scope) in
-      let free : IsPrinted (comparison scope) (Compare a found b) tokens =
+      let free : IsPrinted (comparison scope) (Binary a (Compare found) b) tokens =
       both_any compared (sum scope) (optional comparison_signs right) a (Some (found, b)) (operand (printed a)) (comparison_token found ∷ operand (printed b)) Anything
       (atom_is_sum scope a (operand (printed a)) first.inner)
       (some_free comparison_signs right (found, b) (comparison_token found ∷ operand (printed b)) Anything
       (both_any (λ sign right. (sign, right)) comparison_sign (sum scope) found b (comparison_token found ∷ []) (operand (printed b)) Anything (comparison_sign_free found)
       (atom_is_sum scope b (operand (printed b)) second.inner))) in
-      operation_printable (Compare a found b) tokens (comparison_is a found b) (comparison_is_expression scope (Compare a found b) tokens free)
+      operation_printable (Binary a (Compare found) b) tokens (binary_is a (Compare found) b) (comparison_is_expression scope (Binary a (Compare found) b) tokens free)
 
-  pub null_test_printable : (a : Expr) → Printable scope a → Printable scope (IsNull a)
+  pub null_test_printable : (a : Expr) → Printable scope a → Printable scope (Unary IsNull a)
   unfolding test
   null_test_printable a first =
       let tokens : List Written = operand (printed a) ++ (say (codes "IS") ∷ say (codes "NULL") ∷ []) in
-      let free : IsPrinted (test scope) (IsNull a) tokens =
+      let free : IsPrinted (test scope) (Unary IsNull a) tokens =
       one_more tested (Keyword (codes "is") ∷ []) (comparison scope) (is_test scope) a (false, None) (operand (printed a)) (say (codes "IS") ∷ say (codes "NULL") ∷ [])
       (atom_is_comparison scope a (operand (printed a)) first.inner)
       (is_free scope false None [] (say (codes "NULL") ∷ []) not_negated_free (null_free scope)) in
-      operation_printable (IsNull a) tokens (null_test_is a) (test_is_expression scope (IsNull a) tokens free)
+      operation_printable (Unary IsNull a) tokens (unary_is IsNull a) (test_is_expression scope (Unary IsNull a) tokens free)
 
-  pub not_null_test_printable : (a : Expr) → Printable scope a → Printable scope (IsNotNull a)
+  pub not_null_test_printable : (a : Expr) → Printable scope a → Printable scope (Unary IsNotNull a)
   unfolding test
   not_null_test_printable a first =
       let tokens : List Written = operand (printed a) ++ (say (codes "IS") ∷ say (codes "NOT") ∷ say (codes "NULL") ∷ []) in
-      let free : IsPrinted (test scope) (IsNotNull a) tokens =
+      let free : IsPrinted (test scope) (Unary IsNotNull a) tokens =
       one_more tested (Keyword (codes "is") ∷ []) (comparison scope) (is_test scope) a (true, None)
       (operand (printed a)) (say (codes "IS") ∷ say (codes "NOT") ∷ say (codes "NULL") ∷ [])
       (atom_is_comparison scope a (operand (printed a)) first.inner)
       (is_free scope true None (say (codes "NOT") ∷ []) (say (codes "NULL") ∷ []) negated_free (null_free scope)) in
-      operation_printable (IsNotNull a) tokens (not_null_test_is a) (test_is_expression scope (IsNotNull a) tokens free)
+      operation_printable (Unary IsNotNull a) tokens (unary_is IsNotNull a) (test_is_expression scope (Unary IsNotNull a) tokens free)
 
-  pub distinct_test_printable : (a b : Expr) → Printable scope a → Printable scope b → Printable scope (IsDistinct a b)
+  pub distinct_test_printable : (a b : Expr) → Printable scope a → Printable scope b → Printable scope (Binary a IsDistinct b)
   unfolding test
   distinct_test_printable a b first second =
       let tokens : List Written = operand (printed a) ++ (say (codes "IS") ∷ say (codes "DISTINCT") ∷ say (codes "FROM") ∷ operand (printed b)) in
-      let free : IsPrinted (test scope) (IsDistinct a b) tokens =
+      let free : IsPrinted (test scope) (Binary a IsDistinct b) tokens =
       one_more tested (Keyword (codes "is") ∷ []) (comparison scope) (is_test scope) a (false, Some b)
       (operand (printed a)) (say (codes "IS") ∷ say (codes "DISTINCT") ∷ say (codes "FROM") ∷ operand (printed b))
       (atom_is_comparison scope a (operand (printed a)) first.inner)
       (is_free scope false (Some b) [] (say (codes "DISTINCT") ∷ say (codes "FROM") ∷ operand (printed b)) not_negated_free
       (distinct_free scope b (operand (printed b)) (atom_is_comparison scope b (operand (printed b)) second.inner))) in
-      operation_printable (IsDistinct a b) tokens (distinct_test_is a b) (test_is_expression scope (IsDistinct a b) tokens free)
+      operation_printable (Binary a IsDistinct b) tokens (binary_is a IsDistinct b) (test_is_expression scope (Binary a IsDistinct b) tokens free)
 
-  pub not_distinct_test_printable : (a b : Expr) → Printable scope a → Printable scope b → Printable scope (IsNotDistinct a b)
+  pub not_distinct_test_printable : (a b : Expr) → Printable scope a → Printable scope b → Printable scope (Binary a IsNotDistinct b)
   unfolding test
   not_distinct_test_printable a b first second =
       let tokens : List Written = operand (printed a) ++ (say (codes "IS") ∷ say (codes "NOT") ∷ say (codes "DISTINCT") ∷ say (codes "FROM") ∷ operand (printed b)) in
-      let free : IsPrinted (test scope) (IsNotDistinct a b) tokens =
+      let free : IsPrinted (test scope) (Binary a IsNotDistinct b) tokens =
       one_more tested (Keyword (codes "is") ∷ []) (comparison scope) (is_test scope) a (true, Some b)
       (operand (printed a)) (say (codes "IS") ∷ say (codes "NOT") ∷ say (codes "DISTINCT") ∷ say (codes "FROM") ∷ operand (printed b))
       (atom_is_comparison scope a (operand (printed a)) first.inner)
       (is_free scope true (Some b) (say (codes "NOT") ∷ []) (say (codes "DISTINCT") ∷ say (codes "FROM") ∷ operand (printed b)) negated_free
       (distinct_free scope b (operand (printed b)) (atom_is_comparison scope b (operand (printed b)) second.inner))) in
-      operation_printable (IsNotDistinct a b) tokens (not_distinct_test_is a b) (test_is_expression scope (IsNotDistinct a b) tokens free)
+      operation_printable (Binary a IsNotDistinct b) tokens (binary_is a IsNotDistinct b) (test_is_expression scope (Binary a IsNotDistinct b) tokens free)
 
-  pub conjunction_printable : (a b : Expr) → Printable scope a → Printable scope b → Printable scope (And a b)
+  pub conjunction_printable : (a b : Expr) → Printable scope a → Printable scope b → Printable scope (Binary a And b)
   unfolding conjunction
   conjunction_printable a b first second =
       let tokens : List Written = operand (printed a) ++ (say (codes "AND") ∷ operand (printed b)) in
-      let free : IsPrinted (conjunction scope) (And a b) tokens =
-      one_more And (Keyword (codes "and") ∷ []) (negation scope) (word (codes "and") ▸ negation scope) a b
+      let free : IsPrinted (conjunction scope) (Binary a And b) tokens =
+      one_more (with_right And) (Keyword (codes "and") ∷ []) (negation scope) (word (codes "and") ▸ negation scope) a b
       (operand (printed a)) (say (codes "AND") ∷ operand (printed b))
       (atom_is_negation scope a (operand (printed a)) first.inner)
       (behind_word (codes "AND") (codes "and") (negation scope) b (operand (printed b)) Anything refl refl (atom_is_negation scope b (operand (printed b)) second.inner)) in
-      operation_printable (And a b) tokens (conjunction_is a b) (conjunction_is_expression scope (And a b) tokens free)
+      operation_printable (Binary a And b) tokens (binary_is a And b) (conjunction_is_expression scope (Binary a And b) tokens free)
 
-  pub disjunction_printable : (a b : Expr) → Printable scope a → Printable scope b → Printable scope (Or a b)
+  pub disjunction_printable : (a b : Expr) → Printable scope a → Printable scope b → Printable scope (Binary a Or b)
   unfolding expression
   disjunction_printable a b first second =
       let tokens : List Written = operand (printed a) ++ (say (codes "OR") ∷ operand (printed b)) in
-      let free : IsPrinted (expression scope) (Or a b) tokens =
-      one_more Or (Keyword (codes "or") ∷ []) (conjunction scope) (word (codes "or") ▸ conjunction scope) a b
+      let free : IsPrinted (expression scope) (Binary a Or b) tokens =
+      one_more (with_right Or) (Keyword (codes "or") ∷ []) (conjunction scope) (word (codes "or") ▸ conjunction scope) a b
       (operand (printed a)) (say (codes "OR") ∷ operand (printed b))
       (atom_is_conjunction scope a (operand (printed a)) first.inner)
       (behind_word (codes "OR") (codes "or") (conjunction scope) b (operand (printed b)) Anything refl refl (atom_is_conjunction scope b (operand (printed b)) second.inner)) in
-      operation_printable (Or a b) tokens (disjunction_is a b) free
+      operation_printable (Binary a Or b) tokens (binary_is a Or b) free

@@ -2,13 +2,16 @@
 use Rattle.std.proofs.Common.{List, [], ◌∷◌, ◌++◌, None, subst, codes}
 use Rattle.std.proofs.lemmas.List.{append-nil}
 use Rattle.aq_base.specs.declared.expr.Expr.{Expr}
-use Rattle.aq_base.specs.declared.expr.Expr.TheVariants.{Negate, Multiply, Not, And, Or}
+use Rattle.aq_base.specs.declared.expr.Expr.TheVariants.{Unary}
+use Rattle.aq_base.specs.declared.expr.UnaryOperator.{UnaryOperator}
+use Rattle.aq_base.specs.declared.expr.UnaryOperator.TheVariants.{Negate, Not}
+use Rattle.aq_base.specs.declared.expr.BinaryOperator.TheVariants.{Multiply, And, Or}
 use Rattle.aq_lex.specs.declared.token.Symbol.TheVariants.{Plus, Minus, Times}
 use Rattle.aq_grammar.specs.declared.scope.Scope.{Scope}
 use Rattle.aq_grammar.specs.Terminals.{Terminal, Keyword, Sign as Mark_kind}
 use Rattle.aq_grammar.specs.Rules.{Rule, Both, Many}
 use Rattle.aq_grammar.specs.Forms.{word, sign, ◌▸◌, optional}
-use Rattle.aq_grammar.specs.Expressions.{before, from_left, with_summand, compared, tested, comparison_signs, comparison_sign, atom, signed, product, summand, sum, comparison, is_test, test, negation, conjunction, expression}
+use Rattle.aq_grammar.specs.Expressions.{before, from_left, with_right, with_operand, compared, tested, comparison_signs, comparison_sign, atom, signed, product, summand, sum, comparison, is_test, test, negation, conjunction, expression}
 use Rattle.aq_texts.specs.Written.{Written}
 use Rattle.aq_forms.proofs.Combining.{IsFree, Anything, both_any, many_free, none_free}
 
@@ -39,21 +42,21 @@ one_more step kinds a b e x ws vs first second =
 
 -- ---- operators before an operand
 
-abbrev pub prefixed : (Expr → Expr) → List Terminal → Rule (Unit {0}) → Rule Expr → Rule Expr
-prefixed f kinds a b = Both (before f) (Many kinds [] (λ found. found) a) b
+abbrev pub prefixed : UnaryOperator → List Terminal → Rule (Unit {0}) → Rule Expr → Rule Expr
+prefixed operator kinds a b = Both (before operator) (Many kinds [] (λ found. found) a) b
 
 -- none of them
-pub bare : (f : Expr → Expr) (kinds : List Terminal) (a : Rule (Unit {0})) (b : Rule Expr) (e : Expr) (ws : List Written) → IsPrinted b e ws
-    → IsPrinted (prefixed f kinds a b) e ws
-bare f kinds a b e ws only =
-    both_any (before f) (Many kinds [] (λ found. found) a) b [] e [] ws Anything (many_free kinds (λ found. found) a (λ x. []) [] Anything tt) only
+pub bare : (operator : UnaryOperator) (kinds : List Terminal) (a : Rule (Unit {0})) (b : Rule Expr) (e : Expr) (ws : List Written) → IsPrinted b e ws
+    → IsPrinted (prefixed operator kinds a b) e ws
+bare operator kinds a b e ws only =
+    both_any (before operator) (Many kinds [] (λ found. found) a) b [] e [] ws Anything (many_free kinds (λ found. found) a (λ x. []) [] Anything tt) only
 
 -- one of them
-pub one_before : (f : Expr → Expr) (kinds : List Terminal) (a : Rule (Unit {0})) (b : Rule Expr) (token : Written) (e : Expr) (ws : List Written)
-    → IsPrinted a tt (token ∷ []) → IsPrinted b e ws → IsPrinted (prefixed f kinds a b) (f e) (token ∷ ws)
-one_before f kinds a b token e ws operator only =
-    both_any (before f) (Many kinds [] (λ found. found) a) b (tt ∷ []) e (token ∷ []) ws Anything
-    (many_free kinds (λ found. found) a (λ x. token ∷ []) (tt ∷ []) Anything (operator, tt)) only
+pub one_before : (operator : UnaryOperator) (kinds : List Terminal) (a : Rule (Unit {0})) (b : Rule Expr) (token : Written) (e : Expr) (ws : List Written)
+    → IsPrinted a tt (token ∷ []) → IsPrinted b e ws → IsPrinted (prefixed operator kinds a b) (Unary operator e) (token ∷ ws)
+one_before operator kinds a b token e ws said only =
+    both_any (before operator) (Many kinds [] (λ found. found) a) b (tt ∷ []) e (token ∷ []) ws Anything
+    (many_free kinds (λ found. found) a (λ x. token ∷ []) (tt ∷ []) Anything (said, tt)) only
 
 -- ---- from a level to the next
 
@@ -64,11 +67,11 @@ module _ (scope : Scope) (e : Expr) (ws : List Written) where
 
   pub signed_is_product : IsPrinted (signed scope) e ws → IsPrinted (product scope) e ws
   unfolding product
-  signed_is_product free = alone Multiply (Mark_kind Times ∷ []) (signed scope) (sign Times ▸ signed scope) e ws free
+  signed_is_product free = alone (with_right Multiply) (Mark_kind Times ∷ []) (signed scope) (sign Times ▸ signed scope) e ws free
 
   pub product_is_sum : IsPrinted (product scope) e ws → IsPrinted (sum scope) e ws
   unfolding sum
-  product_is_sum free = alone with_summand (Mark_kind Plus ∷ Mark_kind Minus ∷ []) (product scope) (summand scope) e ws free
+  product_is_sum free = alone with_operand (Mark_kind Plus ∷ Mark_kind Minus ∷ []) (product scope) (summand scope) e ws free
 
   pub sum_is_comparison : IsPrinted (sum scope) e ws → IsPrinted (comparison scope) e ws
   unfolding comparison
@@ -88,11 +91,11 @@ module _ (scope : Scope) (e : Expr) (ws : List Written) where
 
   pub negation_is_conjunction : IsPrinted (negation scope) e ws → IsPrinted (conjunction scope) e ws
   unfolding conjunction
-  negation_is_conjunction free = alone And (Keyword (codes "and") ∷ []) (negation scope) (word (codes "and") ▸ negation scope) e ws free
+  negation_is_conjunction free = alone (with_right And) (Keyword (codes "and") ∷ []) (negation scope) (word (codes "and") ▸ negation scope) e ws free
 
   pub conjunction_is_expression : IsPrinted (conjunction scope) e ws → IsPrinted (expression scope) e ws
   unfolding expression
-  conjunction_is_expression free = alone Or (Keyword (codes "or") ∷ []) (conjunction scope) (word (codes "or") ▸ conjunction scope) e ws free
+  conjunction_is_expression free = alone (with_right Or) (Keyword (codes "or") ∷ []) (conjunction scope) (word (codes "or") ▸ conjunction scope) e ws free
 
 -- ---- from an atom outwards, and from each level to the weakest
 

@@ -2,7 +2,11 @@
 use Rattle.std.proofs.Common.{◌≡◌, ℕ, zero, suc, Bool, true, false, List, [], ◌∷◌, Option, Some, None, inl, inr, refl, sym, ap, ◌∙◌, subst, codes}
 use Rattle.aq_base.specs.declared.expr.Expr.{Expr}
 use Rattle.aq_base.specs.declared.expr.Comparison.{Comparison}
-use Rattle.aq_base.specs.declared.expr.Expr.TheVariants.{Negate, Multiply, Not, And, Or}
+use Rattle.aq_base.specs.declared.expr.Expr.TheVariants.{Unary, Binary}
+use Rattle.aq_base.specs.declared.expr.UnaryOperator.{UnaryOperator}
+use Rattle.aq_base.specs.declared.expr.UnaryOperator.TheVariants.{Negate, Not}
+use Rattle.aq_base.specs.declared.expr.BinaryOperator.{BinaryOperator}
+use Rattle.aq_base.specs.declared.expr.BinaryOperator.TheVariants.{Multiply, And, Or}
 use Rattle.aq_lex.specs.Lexemes.{PlacedLexeme}
 use Rattle.aq_lex.specs.declared.token.Symbol.TheVariants.{Plus, Minus, Times}
 use Rattle.aq_grammar.specs.declared.scope.Scope.{Scope}
@@ -10,7 +14,7 @@ use Rattle.aq_grammar.specs.Terminals.{Terminal, Keyword, Sign as Mark_kind}
 use Rattle.aq_grammar.specs.Rules.{Nonterminal, ValueOf, Rule, Call, Expression}
 use Rattle.aq_grammar.specs.Forms.{word, sign, ◌▸◌, limit}
 use Rattle.aq_grammar.specs.Nonterminals.{rules}
-use Rattle.aq_grammar.specs.Expressions.{before, from_left, with_summand, compared, tested, atom, signed, product, summand, sum, comparison, null_or_distinct, is_test, test, negation, conjunction, expression, expression_limit, whole_expression}
+use Rattle.aq_grammar.specs.Expressions.{before, from_left, with_right, with_operand, sum_sign, compared, tested, atom, signed, product, summand, sum, comparison, null_or_distinct, is_test, test, negation, conjunction, expression, expression_limit, whole_expression}
 use Rattle.aq_texts.specs.Canon.{expression as expression_tokens}
 use Rattle.aq_forms.proofs.Derived.{Trees, DerivesBy, DerivesEach, DerivesWithin, Derives}
 use Rattle.aq_forms.proofs.Combining.{IsFree, Anything, limited_free, weaker}
@@ -27,10 +31,6 @@ module _ (scope : Scope) where
   tested_printable e false (Some right) first second = distinct_test_printable scope e right first (second right refl)
   tested_printable e true (Some right) first second = not_distinct_test_printable scope e right first (second right refl)
 
-  with_summand_printable : (e : Expr) (subtracts : Bool) (right : Expr) → Printable scope e → Printable scope right → Printable scope (with_summand e (subtracts, right))
-  with_summand_printable e false right first second = sum_printable scope e right first second
-  with_summand_printable e true right first second = difference_printable scope e right first second
-
   -- where each expression that is called is printed freely
   module _ (calls : (n : Nonterminal) → Trees (ValueOf n)) (called : (e : Expr) → calls (Expression scope) e → Printable scope e) where
     -- operands behind a first one
@@ -46,15 +46,15 @@ module _ (scope : Scope) where
         subst (Printable scope) (sym (whole ∙ ap (λ (found : List _). from_left step e found) same)) (steps_printable step b next e xs (start e derived) all)
 
     -- operators before an operand
-    before_printable : (f : Expr → Expr) → ((e : Expr) → Printable scope e → Printable scope (f e)) → (found : List (Unit {0})) (e : Expr) → Printable scope e
-        → Printable scope (before f found e)
-    before_printable f next [] e only = only
-    before_printable f next (first ∷ others) e only = next (before f others e) (before_printable f next others e only)
+    before_printable : (operator : UnaryOperator) → ((e : Expr) → Printable scope e → Printable scope (Unary operator e)) → (found : List (Unit {0})) (e : Expr) → Printable scope e
+        → Printable scope (before operator found e)
+    before_printable operator next [] e only = only
+    before_printable operator next (first ∷ others) e only = next (before operator others e) (before_printable operator next others e only)
 
-    prefixed_printable : (f : Expr → Expr) (kinds : List Terminal) (a : Rule (Unit {0})) (b : Rule Expr) → ((e : Expr) → Printable scope e → Printable scope (f e))
-        → ((e : Expr) → DerivesBy calls b e → Printable scope e) → (y : Expr) → DerivesBy calls (prefixed f kinds a b) y → Printable scope y
-    prefixed_printable f kinds a b next start y (found, e, operators, derived, whole) =
-        subst (Printable scope) (sym whole) (before_printable f next found e (start e derived))
+    prefixed_printable : (operator : UnaryOperator) (kinds : List Terminal) (a : Rule (Unit {0})) (b : Rule Expr) → ((e : Expr) → Printable scope e → Printable scope (Unary operator e))
+        → ((e : Expr) → DerivesBy calls b e → Printable scope e) → (y : Expr) → DerivesBy calls (prefixed operator kinds a b) y → Printable scope y
+    prefixed_printable operator kinds a b next start y (found, e, operators, derived, whole) =
+        subst (Printable scope) (sym whole) (before_printable operator next found e (start e derived))
 
     -- what stands behind an operator
     behind_printable : {A : Type 0} (f : Expr → Expr → Expr) (a : Rule A) (b : Rule Expr) → ((e x : Expr) → Printable scope e → Printable scope x → Printable scope (f e x))
@@ -76,17 +76,25 @@ module _ (scope : Scope) where
     product_derived : (e : Expr) → DerivesBy calls (product scope) e → Printable scope e
     unfolding product
     product_derived e derived =
-        chain_printable Multiply (Mark_kind Times ∷ []) (signed scope) (sign Times ▸ signed scope) signed_derived
-        (behind_printable Multiply (sign Times) (signed scope) (product_printable scope) signed_derived) e derived
+        chain_printable (with_right Multiply) (Mark_kind Times ∷ []) (signed scope) (sign Times ▸ signed scope) signed_derived
+        (behind_printable (with_right Multiply) (sign Times) (signed scope) (product_printable scope) signed_derived) e derived
 
-    summand_derived : (e : Expr) (x : Bool × Expr) → Printable scope e → DerivesBy calls (summand scope) x → Printable scope (with_summand e x)
+    sign_printable : (e : Expr) (operator : BinaryOperator) (right : Expr) → DerivesBy calls sum_sign operator → Printable scope e → Printable scope right
+        → Printable scope (Binary e operator right)
+    unfolding sum_sign
+    sign_printable e operator right (inl (token, fit, sound, is)) first second =
+        subst (λ (found : BinaryOperator). Printable scope (Binary e found right)) (sym is) (sum_printable scope e right first second)
+    sign_printable e operator right (inr (token, fit, sound, is)) first second =
+        subst (λ (found : BinaryOperator). Printable scope (Binary e found right)) (sym is) (difference_printable scope e right first second)
+
+    summand_derived : (e : Expr) (x : BinaryOperator × Expr) → Printable scope e → DerivesBy calls (summand scope) x → Printable scope (with_operand e x)
     unfolding summand
-    summand_derived e x first (subtracts, right, said, derived, whole) =
-        subst (λ (found : Bool × Expr). Printable scope (with_summand e found)) (sym whole) (with_summand_printable e subtracts right first (product_derived right derived))
+    summand_derived e x first (operator, right, said, derived, whole) =
+        subst (λ (found : BinaryOperator × Expr). Printable scope (with_operand e found)) (sym whole) (sign_printable e operator right said first (product_derived right derived))
 
     sum_derived : (e : Expr) → DerivesBy calls (sum scope) e → Printable scope e
     unfolding sum
-    sum_derived e derived = chain_printable with_summand (Mark_kind Plus ∷ Mark_kind Minus ∷ []) (product scope) (summand scope) product_derived summand_derived e derived
+    sum_derived e derived = chain_printable with_operand (Mark_kind Plus ∷ Mark_kind Minus ∷ []) (product scope) (summand scope) product_derived summand_derived e derived
 
     comparison_derived : (e : Expr) → DerivesBy calls (comparison scope) e → Printable scope e
     unfolding comparison
@@ -119,14 +127,14 @@ module _ (scope : Scope) where
     conjunction_derived : (e : Expr) → DerivesBy calls (conjunction scope) e → Printable scope e
     unfolding conjunction
     conjunction_derived e derived =
-        chain_printable And (Keyword (codes "and") ∷ []) (negation scope) (word (codes "and") ▸ negation scope) negation_derived
-        (behind_printable And (word (codes "and")) (negation scope) (conjunction_printable scope) negation_derived) e derived
+        chain_printable (with_right And) (Keyword (codes "and") ∷ []) (negation scope) (word (codes "and") ▸ negation scope) negation_derived
+        (behind_printable (with_right And) (word (codes "and")) (negation scope) (conjunction_printable scope) negation_derived) e derived
 
     expression_derived : (e : Expr) → DerivesBy calls (expression scope) e → Printable scope e
     unfolding expression
     expression_derived e derived =
-        chain_printable Or (Keyword (codes "or") ∷ []) (conjunction scope) (word (codes "or") ▸ conjunction scope) conjunction_derived
-        (behind_printable Or (word (codes "or")) (conjunction scope) (disjunction_printable scope) conjunction_derived) e derived
+        chain_printable (with_right Or) (Keyword (codes "or") ∷ []) (conjunction scope) (word (codes "or") ▸ conjunction scope) conjunction_derived
+        (behind_printable (with_right Or) (word (codes "or")) (conjunction scope) (disjunction_printable scope) conjunction_derived) e derived
 
   within_printable : (most : ℕ) (e : Expr) → DerivesWithin most (Expression scope) e → Printable scope e
   unfolding rules

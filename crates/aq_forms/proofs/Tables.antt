@@ -146,7 +146,7 @@ item_begins (Constraint c) valid = table_constraint_begins c
 
 -- nothing is refused before a symbol
 no_refused_behind : (rest : List PlacedLexeme) → Symbol_next rest → Nothing_refused behind_items rest
-no_refused_behind = before_symbol (Nothing_refused behind_items) (λ line symbol others. refl)
+no_refused_behind = before_symbol (Nothing_refused behind_items) (λ line symbol others apart. refl)
 
 added_begins : (c : TableConstraint) → MayFollow (table_constraint_tokens c) Symbol_next (Nothing_refused other_constraints)
 added_begins (PrimaryKey None columns) lines at rest next = refl
@@ -182,7 +182,7 @@ item_prints (Constraint c) valid = unless_prints (left_prints (mapped_prints {f 
 
 items_print : (xs : List TableItem) → Listed IsItem xs → Prints items xs (listed_tokens table_item xs) Symbol_next
 unfolding items
-items_print xs valid = listed_prints item IsItem table_item Symbol_next item_prints xs Symbol_next valid (λ line rest. (line, Comma, rest, refl)) (λ rest next. next)
+items_print xs valid = listed_prints item IsItem table_item Symbol_next item_prints xs Symbol_next valid (λ line rest. (line, Comma, rest, refl, refl)) (λ rest next. next)
 
 -- behind CREATE
 abbrev pub created_tokens : Creation → List Written

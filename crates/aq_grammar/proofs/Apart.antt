@@ -1,5 +1,5 @@
 -- Kinds of tokens: no token is of two kinds that stand apart, and each kind has a token.
-use Rattle.std.proofs.Common.{◌≡◌, ℕ, Bool, true, false, not, ◌&&◌, ◌||◌, List, [], ◌∷◌, ◌++◌, ◌==◌, refl, sym, ap, ap₂, ◌∙◌, ◌⊎◌, inl, inr}
+use Rattle.std.proofs.Common.{◌≡◌, ℕ, Bool, true, false, not, ◌&&◌, ◌||◌, List, [], ◌∷◌, ◌++◌, ◌==◌, codes, refl, sym, ap, ap₂, ◌∙◌, ◌⊎◌, inl, inr}
 use Rattle.std.specs.List.{list_all}
 use Rattle.std.proofs.lemmas.Bool.{both_ways, not-true, and_parts, and_from, or_cases, or_left, or_right, eqb-true, eq-eqb}
 use Rattle.std.proofs.lemmas.List.Folds.{list_any-append}
@@ -8,7 +8,7 @@ use Rattle.aq_base.specs.Names.{Text as Bytes, same_text, is_short}
 use Rattle.aq_lex.specs.declared.token.Symbol.{Symbol}
 use Rattle.aq_lex.specs.declared.token.Directive.{Directive as DirectiveName}
 use Rattle.aq_lex.specs.Lexemes.{PlacedLexeme, Lexeme, Word, QuotedName, Integer, Text, Symbol as Mark, Directive, is_word}
-use Rattle.aq_grammar.specs.Terminals.{Terminal, Keyword, Name, NameOf, NameBut, Number, Literal, LiteralInCode, Message, Sign, symbol_number, same_symbol, is_name_word, name_is, number_is, text_is, symbol_is, fits, is_of_kind, PlainName, Count, Heading, is_plain_name, directive_is, directive_number, same_directive, is_of, begins}
+use Rattle.aq_grammar.specs.Terminals.{Terminal, Keyword, Name, NameOf, NameBut, Number, Literal, LiteralInCode, Message, StateCode, Sign, symbol_number, same_symbol, is_name_word, name_is, number_is, text_is, symbol_is, fits, is_of_kind, PlainName, Count, Heading, is_plain_name, directive_is, directive_number, same_directive, is_of, begins}
 use Rattle.aq_grammar.specs.Sets.{apart_from_keyword, apart_from_names, apart_from_name, apart_from_other_names, apart_from_numbers, apart_from_texts, apart_from_sign, apart_from_heading, is_apart, are_apart, same_kind, same_kinds, no_kinds, is_possible}
 
 pub same_text_is : (a b : Bytes) → same_text a b ≡ true → a ≡ b
@@ -126,6 +126,7 @@ kinds_apart (Heading directive) other token n h k = apart_heading directive othe
 kinds_apart Literal other token n h k = apart_texts _ other token n h k
 kinds_apart LiteralInCode other token n h k = apart_texts _ other token n h k
 kinds_apart Message other token n h k = apart_texts _ other token n h k
+kinds_apart StateCode other token n h k = apart_texts _ other token n h k
 kinds_apart (Sign symbol) other token n h k = apart_sign symbol other token n h k
 
 -- no token is of both kinds
@@ -165,6 +166,7 @@ same_kind_of Number Number token e = refl
 same_kind_of Literal Literal token e = refl
 same_kind_of LiteralInCode LiteralInCode token e = refl
 same_kind_of Message Message token e = refl
+same_kind_of StateCode StateCode token e = refl
 same_kind_of (Sign symbol) (Sign other) (Mark mark) e = ap (λ (number : ℕ). symbol_number mark == number) (eqb-true (symbol_number symbol) (symbol_number other) e)
 same_kind_of (Sign symbol) (Sign other) token e = refl
 same_kind_of kind other token e = cc
@@ -241,6 +243,7 @@ lexeme_of Count h = (Integer 1, refl)
 lexeme_of Literal h = (Text [], refl)
 lexeme_of LiteralInCode h = (Text [], refl)
 lexeme_of Message h = (Text [], refl)
+lexeme_of StateCode h = (Text (codes "23505"), refl)
 lexeme_of (Sign symbol) h = (Mark symbol, eq-eqb (symbol_number symbol) (symbol_number symbol) refl)
 lexeme_of (Heading directive) h = (Directive directive, eq-eqb (directive_number directive) (directive_number directive) refl)
 

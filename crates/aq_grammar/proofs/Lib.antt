@@ -20,6 +20,7 @@ pub mod Fit
 pub mod Some
 pub mod Grammar
 pub mod Shorter
+pub mod NoLonger
 pub mod Loops
 pub mod Worked
 pub mod PairsFit

@@ -6,6 +6,8 @@ use Rattle.aq_base.specs.declared.fault.SqlFault.{SqlFault}
 use Rattle.aq_lex.specs.Lexemes.{PlacedLexeme}
 use Rattle.aq_lex.specs.declared.token.Symbol.TheVariants.{Comma}
 use Rattle.aq_base.specs.declared.expr.Expr.{Expr}
+use Rattle.aq_base.specs.declared.expr.Expr.TheVariants.{Unary}
+use Rattle.aq_base.specs.declared.expr.UnaryOperator.{UnaryOperator}
 use Rattle.aq_grammar.specs.Terminals.{Terminal, Sign, fits, begins}
 use Rattle.aq_grammar.specs.Rules.{Refusal}
 use Rattle.aq_grammar.specs.Rules.{refused}
@@ -271,10 +273,11 @@ pub count_ends : (kind : Terminal) (tokens rest : List PlacedLexeme) → IsCount
 count_ends kind tokens rest counted ended = ends_with_all (kind ∷ []) [] (read_token kind (λ token. tt)) _ rest _ counted.stands refl ended
 
 -- an operator more before an operand
-before_operand : (f : Expr → Expr) (n : ℕ) (e : Expr) → before f (times n) (f e) ≡ f (before f (times n) e)
-before_operand f zero e = refl
-before_operand f (suc n) e = ap f (before_operand f n e)
+before_operand : (operator : UnaryOperator) (n : ℕ) (e : Expr) → before operator (times n) (Unary operator e) ≡ Unary operator (before operator (times n) e)
+before_operand operator zero e = refl
+before_operand operator (suc n) e = ap (λ (made : Expr). Unary operator made) (before_operand operator n e)
 
-pub one_before : (f : Expr → Expr) (n : ℕ) (e : Expr) → 0 < n → before f (times (n - 1)) (f e) ≡ before f (times n) e
-one_before f zero e some = absurd (omega arith)
-one_before f (suc n) e some = let less : suc n - 1 ≡ n = omega arith in ap (λ m. before f (times m) (f e)) less ∙ before_operand f n e
+pub one_before : (operator : UnaryOperator) (n : ℕ) (e : Expr) → 0 < n → before operator (times (n - 1)) (Unary operator e) ≡ before operator (times n) e
+one_before operator zero e some = absurd (omega arith)
+one_before operator (suc n) e some =
+    let less : suc n - 1 ≡ n = omega arith in ap (λ m. before operator (times m) (Unary operator e)) less ∙ before_operand operator n e

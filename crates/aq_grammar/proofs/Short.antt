@@ -1,10 +1,10 @@
 -- No token of a form is a name, a number or a text that is too long.
-use Rattle.std.proofs.Common.{◌≡◌, ℕ, zero, suc, Bool, true, false, not, ◌&&◌, ◌^◌, List, [], ◌∷◌, ◌++◌, if◌then◌else◌, Some, None, refl, sym, subst, inl, inr, nat_lt}
-use Rattle.std.proofs.lemmas.Bool.{and_parts, or_cases}
+use Rattle.std.proofs.Common.{◌≡◌, ℕ, zero, suc, Bool, true, false, not, ◌&&◌, ◌==◌, ◌^◌, List, [], ◌∷◌, ◌++◌, length, drop, nat_le, ap, if◌then◌else◌, Some, None, refl, sym, subst, inl, inr, nat_lt}
+use Rattle.std.proofs.lemmas.Bool.{and_parts, or_cases, eqb-true}
 use Rattle.aq_base.specs.Names.{Text as Bytes, same_text, is_reserved, is_short}
 use Rattle.aq_base.specs.declared.fault.SqlFault.{SqlFault}
 use Rattle.aq_lex.specs.Lexemes.{PlacedLexeme, Lexeme, Word, QuotedName, Integer, Text, Symbol, Directive}
-use Rattle.aq_grammar.specs.Terminals.{Terminal, Keyword, Name, NameOf, NameBut, PlainName, Number, Count, Literal, LiteralInCode, Message, Sign, Heading, fits, is_of_kind, is_name_word, is_literal, is_literal_in_code, holds, is_of, text_of}
+use Rattle.aq_grammar.specs.Terminals.{Terminal, Keyword, Name, NameOf, NameBut, PlainName, Number, Count, Literal, LiteralInCode, Message, StateCode, Sign, Heading, fits, is_of_kind, is_name_word, is_literal, is_literal_in_code, is_code_byte, holds, is_of, text_of}
 use Rattle.std.specs.Prelude.{codes}
 use Rattle.std.specs.List.{list_all}
 use Rattle.aq_grammar.specs.Rules.{Nonterminal, ValueOf, Refusal, Rule, Done, Token, Both, Either, Many, Differing, Call, Unless, Limited, Form, Bar, IsRefused, BarsNext, SpellsToken, SpellsBoth, SpellsEach, SpellsOther, SpellsBy, BarsBy}
@@ -46,6 +46,7 @@ is_short_kind Count = true
 is_short_kind Literal = true
 is_short_kind LiteralInCode = true
 is_short_kind Message = true
+is_short_kind StateCode = true
 is_short_kind (Sign symbol) = true
 is_short_kind (Heading directive) = true
 
@@ -106,6 +107,12 @@ message_short : (lexeme : Lexeme) → is_of_kind Message lexeme ≡ true → own
 message_short (Text text) is = literal_in_code_short (Text text) (and_parts (is_literal_in_code text) (not (holds (codes "%") text)) is).0
 message_short lexeme is = cc
 
+state_code_short : (lexeme : Lexeme) → is_of_kind StateCode lexeme ≡ true → own_fault lexeme ≡ None
+state_code_short (Text text) is =
+    let (five, others) = and_parts (length text == 5) (list_all is_code_byte text && not (same_text (drop 2 text) (codes "000"))) is in
+    short_if (is_literal text) long_text (ap (λ (n : ℕ). nat_le n 1000) (eqb-true (length text) 5 five))
+state_code_short lexeme is = cc
+
 lexeme_short : (lexeme : Lexeme) (kind : Terminal) → is_of_kind kind lexeme ≡ true → is_short_kind kind ≡ true → own_fault lexeme ≡ None
 lexeme_short lexeme (Keyword word) is short = keyword_short word lexeme short is
 lexeme_short lexeme Name is short = name_short lexeme is
@@ -117,6 +124,7 @@ lexeme_short lexeme Count is short = count_short lexeme is
 lexeme_short lexeme Literal is short = literal_short lexeme is
 lexeme_short lexeme LiteralInCode is short = literal_in_code_short lexeme is
 lexeme_short lexeme Message is short = message_short lexeme is
+lexeme_short lexeme StateCode is short = state_code_short lexeme is
 lexeme_short (Symbol found) (Sign symbol) is short = refl
 lexeme_short (Directive found) (Heading directive) is short = refl
 lexeme_short lexeme (Sign symbol) is short = cc

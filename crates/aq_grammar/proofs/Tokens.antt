@@ -1,6 +1,8 @@
 -- What the first token is, and how it is read.
-use Rattle.std.proofs.Common.{◌≡◌, ℕ, ◌^◌, Bool, true, false, not, ◌&&◌, ◌||◌, ◌==◌, List, [], ◌∷◌, drop, map, Option, Some, None, ℤ, pos, nat_abs, refl, sym, ap, ◌∙◌, nat_le, nat_lt, codes, if◌then◌else◌, arith}
-use Rattle.std.specs.List.{list_any}
+use Rattle.std.proofs.Common.{◌≡◌, ℕ, ◌^◌, Bool, true, false, not, ◌&&◌, ◌||◌, ◌==◌, List, [], ◌∷◌, length, drop, map, Option, Some, None, ℤ, pos, nat_abs, refl, sym, ap, ◌∙◌, nat_le, nat_lt, codes, if◌then◌else◌, arith}
+use Rattle.std.specs.List.{list_any, list_all}
+use Rattle.std.proofs.lemmas.Bool.{and_parts, eqb-true}
+use Rattle.aq_base.specs.declared.fault.Code.{Code}
 use Rattle.std.specs.Int.Signed.{lt_z}
 use Rattle.std.specs.Option.{is_some}
 use denote.Enum.Bare.{sameb}
@@ -16,9 +18,9 @@ use Rattle.aq_lex.specs.declared.token.Directive.TheVariants.{Setup, Session, Sc
 use Rattle.aq_lex.specs.declared.token.TokenKind.TheVariants as kinds
 use Rattle.aq_lex.specs.Lexemes.{PlacedLexeme, Lexeme, Word, QuotedName, Integer, Text, Symbol, Directive, first_kind, first_integer, first_is_word, kind_of, small}
 use Rattle.aq_lex.specs.Lexemes as lexemes
-use Rattle.aq_grammar.specs.Terminals.{Terminal, begins, begin_with, fits, Keyword, Sign, Name, NameOf, NameBut, PlainName, Number, Count, Literal, LiteralInCode, Message, Heading, is_of_kind, is_name_word, is_literal, is_literal_in_code, is_message, is_plain_name, name_is, text_is, symbol_is, directive_is, holds, text_of, lexeme_text, lexeme_number, number_of, same_symbol, symbol_number, same_directive, directive_number}
+use Rattle.aq_grammar.specs.Terminals.{Terminal, begins, begin_with, fits, Keyword, Sign, Name, NameOf, NameBut, PlainName, Number, Count, Literal, LiteralInCode, Message, StateCode, Heading, is_of_kind, is_name_word, is_literal, is_literal_in_code, is_message, is_code_byte, is_state_code, is_plain_name, name_is, text_is, symbol_is, directive_is, holds, text_of, lexeme_text, lexeme_number, number_of, same_symbol, symbol_number, same_directive, directive_number}
 use Rattle.aq_grammar.specs.Reading.{Outcome, Read, Stop, Syntax, read_token}
-use Rattle.aq_grammar.specs.Steps.{read_text, text_then, first_text_of, first_count}
+use Rattle.aq_grammar.specs.Steps.{read_text, text_then, first_text_of, first_count, first_code}
 use Rattle.aq_grammar.specs.Expressions.{literal_in}
 use Rattle.aq_grammar.specs.declared.scope.Scope.{Scope}
 use Rattle.aq_grammar.specs.declared.scope.Scope.TheVariants.{InStatement, InCondition, InCode}
@@ -230,6 +232,55 @@ pub message_is : (tokens : List PlacedLexeme)
 message_is [] = refl
 message_is (token ∷ tokens) =
     ap (λ (b : Bool). b || false) (message_test token.lexeme) ∙ text_passes (λ text. not (holds (codes "$$") text) && not (holds (codes "%") text)) token.lexeme
+
+-- ---- the code of an error
+
+state_code_is_literal : (text : Bytes) → is_state_code text ≡ true → is_literal text ≡ true
+state_code_is_literal text is =
+    let (five, others) = and_parts (length text == 5) (list_all is_code_byte text && not (same_text (drop 2 text) (codes "000"))) is in
+    ap (λ (n : ℕ). nat_le n 1000) (eqb-true (length text) 5 five)
+
+-- the code that a text is
+abbrev pub code_of : Option Bytes → Option Code
+code_of None = None
+code_of (Some text) = if is_state_code text then Some (record { 0 = text }) else None
+
+no_code : (b : Bool) (code : Code) → (b ≡ true → false ≡ true) → None ≡ if b then Some code else None
+no_code true code h = let e : false ≡ true = h refl in cc
+no_code false code h = refl
+
+code_of_literal : (b : Bool) (text : Bytes) → (is_state_code text ≡ true → b ≡ true)
+    → code_of (if b || false then Some text else None) ≡ if is_state_code text then Some (record { 0 = text }) else None
+code_of_literal true text h = refl
+code_of_literal false text h = no_code (is_state_code text) (record { 0 = text }) h
+
+code_here : (lexeme : Lexeme)
+    → code_of (if text_is is_literal lexeme || false then lexemes.text_of lexeme else None)
+    ≡ if is_of_kind StateCode lexeme then Some (record { 0 = lexeme_text lexeme }) else None
+code_here (Word text) = refl
+code_here (QuotedName text) = refl
+code_here (Integer number) = refl
+code_here (Text text) = code_of_literal (is_literal text) text (state_code_is_literal text)
+code_here (Symbol symbol) = refl
+code_here (Directive directive) = refl
+
+pub code_is : (tokens : List PlacedLexeme) → code_of (first_text_of Literal tokens) ≡ first_code tokens
+code_is [] = refl
+code_is (token ∷ tokens) = code_here token.lexeme
+
+-- what is read where a code is there
+abbrev pub read_code : Option Code → List PlacedLexeme → Outcome Code
+read_code None tokens = Stop Syntax tokens
+read_code (Some code) tokens = Read code (drop 1 tokens)
+
+code_chosen : (b : Bool) (code : Code) (token : PlacedLexeme) (rest : List PlacedLexeme)
+    → read_code (if b then Some code else None) (token ∷ rest) ≡ if b then Read code rest else Stop Syntax (token ∷ rest)
+code_chosen true code token rest = refl
+code_chosen false code token rest = refl
+
+pub code_is_read : (tokens : List PlacedLexeme) → read_code (first_code tokens) tokens ≡ read_token StateCode (λ token. record { 0 = text_of token }) tokens
+code_is_read [] = refl
+code_is_read (token ∷ rest) = code_chosen (fits StateCode token) (record { 0 = text_of token }) token rest
 
 -- ---- numbers
 

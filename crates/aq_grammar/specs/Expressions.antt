@@ -18,7 +18,11 @@ use Rattle.aq_grammar.specs.declared.scope.Scope.TheVariants.{InStatement, InCon
 use Rattle.aq_grammar.specs.Forms.{word, sign, ◌▸◌, mapped, says, optional, in_parentheses, name, limit}
 use Rattle.aq_base.specs.declared.expr.Expr.{Expr}
 use Rattle.aq_base.specs.declared.expr.Comparison.{Comparison}
-use Rattle.aq_base.specs.declared.expr.Expr.TheVariants.{Constant, Column, Qualified, Old, New, Operation, Negate, Multiply, Add, Subtract, Compare, IsNull, IsNotNull, IsDistinct, IsNotDistinct, Not, And, Or}
+use Rattle.aq_base.specs.declared.expr.Expr.TheVariants.{Constant, Column, Qualified, Old, New, Operation, Unary, Binary}
+use Rattle.aq_base.specs.declared.expr.UnaryOperator.{UnaryOperator}
+use Rattle.aq_base.specs.declared.expr.UnaryOperator.TheVariants.{Negate, Not, IsNull, IsNotNull}
+use Rattle.aq_base.specs.declared.expr.BinaryOperator.{BinaryOperator}
+use Rattle.aq_base.specs.declared.expr.BinaryOperator.TheVariants.{Multiply, Add, Subtract, Compare, IsDistinct, IsNotDistinct, And, Or}
 use Rattle.aq_base.specs.declared.expr.Comparison.TheVariants.{Equal as EqualTo, Unequal as UnequalTo, Less as LessThan, AtMost as AtMostAs, Greater as GreaterThan, AtLeast as AtLeastAs}
 
 -- a text within code holds no `$$`
@@ -89,34 +93,36 @@ unfoldable pub atom : Scope → Rule Expr
 atom scope = Either (Sign OpenParen ∷ []) (in_parentheses (Call (Expression scope) (λ e. e))) (plain_atom scope)
 
 -- as many of an operator before an operand
-abbrev pub before : (Expr → Expr) → List (Unit {0}) → Expr → Expr
-before f [] e = e
-before f (first ∷ others) e = f (before f others e)
+abbrev pub before : UnaryOperator → List (Unit {0}) → Expr → Expr
+before operator [] e = e
+before operator (first ∷ others) e = Unary operator (before operator others e)
 
 -- operands behind a first one, from the left
 abbrev pub from_left : {A : Type 0} → (Expr → A → Expr) → Expr → List A → Expr
 from_left f e [] = e
 from_left f e (x ∷ others) = from_left f (f e x) others
 
+-- an operand with an operator and another operand behind it
+abbrev pub with_right : BinaryOperator → Expr → Expr → Expr
+with_right operator left right = Binary left operator right
+
 unfoldable pub signed : Scope → Rule Expr
 signed scope = Both (before Negate) (Many (Sign Minus ∷ []) [] (λ signs. signs) (sign Minus)) (atom scope)
 
 unfoldable pub product : Scope → Rule Expr
-product scope = Both (from_left Multiply) (signed scope) (Many (Sign Times ∷ []) [] (λ others. others) (sign Times ▸ signed scope))
+product scope = Both (from_left (with_right Multiply)) (signed scope) (Many (Sign Times ∷ []) [] (λ others. others) (sign Times ▸ signed scope))
 
--- `+`, or `-`, which subtracts
-unfoldable pub sum_sign : Rule Bool
-sum_sign = Either (Sign Plus ∷ []) (Token (Sign Plus) (λ token. false)) (Token (Sign Minus) (λ token. true))
+unfoldable pub sum_sign : Rule BinaryOperator
+sum_sign = Either (Sign Plus ∷ []) (Token (Sign Plus) (λ token. Add)) (Token (Sign Minus) (λ token. Subtract))
 
-abbrev pub with_summand : Expr → Bool × Expr → Expr
-with_summand e (false, right) = Add e right
-with_summand e (true, right) = Subtract e right
+abbrev pub with_operand : Expr → BinaryOperator × Expr → Expr
+with_operand e (operator, right) = Binary e operator right
 
-unfoldable pub summand : Scope → Rule (Bool × Expr)
-summand scope = Both (λ subtracts right. (subtracts, right)) sum_sign (product scope)
+unfoldable pub summand : Scope → Rule (BinaryOperator × Expr)
+summand scope = Both (λ operator right. (operator, right)) sum_sign (product scope)
 
 unfoldable pub sum : Scope → Rule Expr
-sum scope = Both (from_left with_summand) (product scope) (Many (Sign Plus ∷ Sign Minus ∷ []) [] (λ others. others) (summand scope))
+sum scope = Both (from_left with_operand) (product scope) (Many (Sign Plus ∷ Sign Minus ∷ []) [] (λ others. others) (summand scope))
 
 abbrev pub comparison_signs : List Terminal
 comparison_signs = Sign Equal ∷ Sign Unequal ∷ Sign Less ∷ Sign AtMost ∷ Sign Greater ∷ Sign AtLeast ∷ []
@@ -132,7 +138,7 @@ comparison_sign =
 
 abbrev pub compared : Expr → Option (Comparison × Expr) → Expr
 compared e None = e
-compared e (Some (comparison, right)) = Compare e comparison right
+compared e (Some (comparison, right)) = Binary e (Compare comparison) right
 
 unfoldable pub comparison : Scope → Rule Expr
 comparison scope = Both compared (sum scope) (optional comparison_signs (Both (λ sign right. (sign, right)) comparison_sign (sum scope)))
@@ -143,10 +149,10 @@ negated = Either (Keyword (codes "not") ∷ []) (says (codes "not") true) (Done 
 
 -- with or without NOT, and what is distinct where it isn't NULL
 abbrev pub tested : Expr → Bool × Option Expr → Expr
-tested e (false, None) = IsNull e
-tested e (true, None) = IsNotNull e
-tested e (false, Some right) = IsDistinct e right
-tested e (true, Some right) = IsNotDistinct e right
+tested e (false, None) = Unary IsNull e
+tested e (true, None) = Unary IsNotNull e
+tested e (false, Some right) = Binary e IsDistinct right
+tested e (true, Some right) = Binary e IsNotDistinct right
 
 unfoldable pub null_or_distinct : Scope → Rule (Option Expr)
 null_or_distinct scope =
@@ -162,10 +168,10 @@ unfoldable pub negation : Scope → Rule Expr
 negation scope = Both (before Not) (Many (Keyword (codes "not") ∷ []) [] (λ words. words) (word (codes "not"))) (test scope)
 
 unfoldable pub conjunction : Scope → Rule Expr
-conjunction scope = Both (from_left And) (negation scope) (Many (Keyword (codes "and") ∷ []) [] (λ others. others) (word (codes "and") ▸ negation scope))
+conjunction scope = Both (from_left (with_right And)) (negation scope) (Many (Keyword (codes "and") ∷ []) [] (λ others. others) (word (codes "and") ▸ negation scope))
 
 unfoldable pub expression : Scope → Rule Expr
-expression scope = Both (from_left Or) (conjunction scope) (Many (Keyword (codes "or") ∷ []) [] (λ others. others) (word (codes "or") ▸ conjunction scope))
+expression scope = Both (from_left (with_right Or)) (conjunction scope) (Many (Keyword (codes "or") ∷ []) [] (λ others. others) (word (codes "or") ▸ conjunction scope))
 
 abbrev pub expression_limit : ℕ
 expression_limit = 1000

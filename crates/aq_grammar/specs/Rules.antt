@@ -14,7 +14,7 @@ use Rattle.aq_base.specs.declared.constraint.ColumnConstraint.{ColumnConstraint}
 -- the rules that lead back to themselves
 pub data Nonterminal : Type 0 where
   Expression : Scope → Nonterminal
-  -- the statements of a code in which so many more IFs may be opened
+  -- statements of a code, in which so many more IFs and blocks may be opened
   Block : ℕ → Nonterminal
   -- what comes behind a column's kind or one of its constraints, with or without a DEFAULT
   ColumnConstraints : Bool → Nonterminal

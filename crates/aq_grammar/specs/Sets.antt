@@ -4,7 +4,7 @@ use Rattle.std.specs.List.{list_all}
 use Rattle.aq_base.specs.Names.{Text as Bytes, same_text, is_short}
 use Rattle.aq_lex.specs.declared.token.Symbol.{Symbol}
 use Rattle.aq_lex.specs.declared.token.Directive.{Directive as DirectiveName}
-use Rattle.aq_grammar.specs.Terminals.{Terminal, Keyword, Name, NameOf, NameBut, PlainName, Number, Count, Literal, LiteralInCode, Message, Sign, Heading, same_symbol, same_directive, is_name_word}
+use Rattle.aq_grammar.specs.Terminals.{Terminal, Keyword, Name, NameOf, NameBut, PlainName, Number, Count, Literal, LiteralInCode, Message, StateCode, Sign, Heading, same_symbol, same_directive, is_name_word}
 use Rattle.aq_grammar.specs.Rules.{Nonterminal, Refusal, Rule, Done, Token, Both, Either, Many, Differing, Call, Unless, Limited}
 
 abbrev pub apart_from_keyword : Bytes → Terminal → Bool
@@ -19,6 +19,7 @@ apart_from_keyword word (Heading directive) = true
 apart_from_keyword word Literal = true
 apart_from_keyword word LiteralInCode = true
 apart_from_keyword word Message = true
+apart_from_keyword word StateCode = true
 apart_from_keyword word (Sign symbol) = true
 
 abbrev pub apart_from_names : Terminal → Bool
@@ -33,6 +34,7 @@ apart_from_names (Heading directive) = true
 apart_from_names Literal = true
 apart_from_names LiteralInCode = true
 apart_from_names Message = true
+apart_from_names StateCode = true
 apart_from_names (Sign symbol) = true
 
 abbrev pub apart_from_name : Bytes → Terminal → Bool
@@ -47,6 +49,7 @@ apart_from_name name (Heading directive) = true
 apart_from_name name Literal = true
 apart_from_name name LiteralInCode = true
 apart_from_name name Message = true
+apart_from_name name StateCode = true
 apart_from_name name (Sign symbol) = true
 
 abbrev pub apart_from_other_names : Bytes → Terminal → Bool
@@ -61,6 +64,7 @@ apart_from_other_names other (Heading directive) = true
 apart_from_other_names other Literal = true
 apart_from_other_names other LiteralInCode = true
 apart_from_other_names other Message = true
+apart_from_other_names other StateCode = true
 apart_from_other_names other (Sign symbol) = true
 
 abbrev pub apart_from_numbers : Terminal → Bool
@@ -75,6 +79,7 @@ apart_from_numbers (Heading directive) = true
 apart_from_numbers Literal = true
 apart_from_numbers LiteralInCode = true
 apart_from_numbers Message = true
+apart_from_numbers StateCode = true
 apart_from_numbers (Sign symbol) = true
 
 abbrev pub apart_from_texts : Terminal → Bool
@@ -89,6 +94,7 @@ apart_from_texts (Heading directive) = true
 apart_from_texts Literal = false
 apart_from_texts LiteralInCode = false
 apart_from_texts Message = false
+apart_from_texts StateCode = false
 apart_from_texts (Sign symbol) = true
 
 abbrev pub apart_from_sign : Symbol → Terminal → Bool
@@ -103,6 +109,7 @@ apart_from_sign sign (Heading directive) = true
 apart_from_sign sign Literal = true
 apart_from_sign sign LiteralInCode = true
 apart_from_sign sign Message = true
+apart_from_sign sign StateCode = true
 apart_from_sign sign (Sign symbol) = not (same_symbol sign symbol)
 
 abbrev pub apart_from_heading : DirectiveName → Terminal → Bool
@@ -116,6 +123,7 @@ apart_from_heading heading Count = true
 apart_from_heading heading Literal = true
 apart_from_heading heading LiteralInCode = true
 apart_from_heading heading Message = true
+apart_from_heading heading StateCode = true
 apart_from_heading heading (Sign symbol) = true
 apart_from_heading heading (Heading directive) = not (same_directive heading directive)
 
@@ -132,6 +140,7 @@ is_apart (Heading directive) kind = apart_from_heading directive kind
 is_apart Literal kind = apart_from_texts kind
 is_apart LiteralInCode kind = apart_from_texts kind
 is_apart Message kind = apart_from_texts kind
+is_apart StateCode kind = apart_from_texts kind
 is_apart (Sign symbol) kind = apart_from_sign symbol kind
 
 -- no token is of a kind of both lists
@@ -161,6 +170,8 @@ same_kind LiteralInCode LiteralInCode = true
 same_kind LiteralInCode kind = false
 same_kind Message Message = true
 same_kind Message kind = false
+same_kind StateCode StateCode = true
+same_kind StateCode kind = false
 same_kind (Sign symbol) (Sign other) = same_symbol symbol other
 same_kind (Sign symbol) kind = false
 
@@ -293,6 +304,7 @@ is_possible (Heading directive) = true
 is_possible Literal = true
 is_possible LiteralInCode = true
 is_possible Message = true
+is_possible StateCode = true
 is_possible (Sign symbol) = true
 
 -- one token of lookahead tells how to go on

@@ -1,10 +1,11 @@
 -- What a function of the parser returned, against what is read by a rule.
 use Rattle.std.specs.Prelude.{◌≡◌, ℕ, Bool, true, false, ◌&&◌, ◌||◌, List, [], ◌∷◌, length, drop, Option, Some, None, Result, Ok, Err, codes, if◌then◌else◌}
 use Rattle.aq_base.specs.Names.{Text as Bytes}
+use Rattle.aq_base.specs.declared.fault.Code.{Code}
 use Rattle.aq_base.specs.declared.fault.SqlFault.{SqlFault}
 use Rattle.aq_lex.specs.Lexemes.{PlacedLexeme, first_text}
 use Rattle.aq_lex.specs.declared.token.Symbol.TheVariants.{Comma, Dot}
-use Rattle.aq_grammar.specs.Terminals.{Terminal, Keyword, Name, NameOf, Sign, Count, begins, begin_with, fits, number_of}
+use Rattle.aq_grammar.specs.Terminals.{Terminal, Keyword, Name, NameOf, Sign, Count, StateCode, begins, begin_with, fits, number_of, text_of}
 use Rattle.aq_grammar.specs.Rules.{Refusal, refused}
 use Rattle.aq_grammar.specs.Forms.{sign}
 use Rattle.aq_grammar.specs.Nonterminals.{reads}
@@ -40,6 +41,11 @@ first_text_of kind tokens = if begins (kind ∷ []) tokens then first_text token
 abbrev pub first_count : List PlacedLexeme → Option ℕ
 first_count [] = None
 first_count (token ∷ tokens) = if fits Count token then Some (number_of token) else None
+
+-- the code that the text of the first token is
+abbrev pub first_code : List PlacedLexeme → Option Code
+first_code [] = None
+first_code (token ∷ tokens) = if fits StateCode token then Some (record { 0 = text_of token }) else None
 
 -- a text and the tokens behind the first
 abbrev pub text_then : Option Bytes → Reader Bytes

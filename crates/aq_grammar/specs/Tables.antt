@@ -5,8 +5,9 @@
 --     constraint = NOT NULL | DEFAULT constant | [CONSTRAINT name] (PRIMARY KEY | UNIQUE | REFERENCES reference), one DEFAULT at the most
 --     constant   = NULL | TRUE | FALSE | text | [-] number
 --     table_constraint = [CONSTRAINT name] (PRIMARY KEY (columns) | UNIQUE (columns) | FOREIGN KEY (columns) REFERENCES reference)
---     reference  = table [(columns)] [MATCH SIMPLE | MATCH FULL] {ON DELETE action | ON UPDATE action} [timing], each ON once at the most
+--     reference  = table [(columns)] [MATCH SIMPLE | MATCH FULL] {ON DELETE deletion | ON UPDATE action} [timing], each ON once at the most
 --     action     = NO ACTION | RESTRICT | CASCADE | SET NULL | SET DEFAULT
+--     deletion   = NO ACTION | RESTRICT | CASCADE | (SET NULL | SET DEFAULT) [(columns)]
 --     timing     = NOT DEFERRABLE [INITIALLY IMMEDIATE] | DEFERRABLE [INITIALLY (IMMEDIATE | DEFERRED)] | INITIALLY (IMMEDIATE | DEFERRED)
 -- A column's NOT behind its REFERENCES begins NOT NULL or NOT DEFERRABLE. So that the next token always tells how to go on, what comes
 -- behind a column's constraint is one form: the timing and the constraints that follow.
@@ -143,34 +144,65 @@ matching =
 unfoldable pub setting : Rule Action
 setting = word (codes "set") ▸ Either (Keyword (codes "null") ∷ []) (says (codes "null") SetNull) (says (codes "default") SetDefault)
 
-unfoldable pub action : Rule Action
-action =
+-- an action that sets no column
+unfoldable pub plain_action : Rule Action
+plain_action =
     Either (Keyword (codes "no") ∷ []) (word (codes "no") ▸ says (codes "action") NoAction)
-    (Either (Keyword (codes "restrict") ∷ []) (says (codes "restrict") Restrict)
-    (Either (Keyword (codes "cascade") ∷ []) (says (codes "cascade") Cascade)
-    setting))
+    (Either (Keyword (codes "restrict") ∷ []) (says (codes "restrict") Restrict) (says (codes "cascade") Cascade))
 
--- the action of the other change, where it is given
-abbrev pub action_on : Bytes → Rule Action
-action_on change = Either (Keyword (codes "on") ∷ []) (word (codes "on") ▸ word change ▸ action) (Done NoAction)
+-- what a deletion does, and the list of the columns that it sets
+unfoldable pub deletion : Rule (Action × Option (List Bytes))
+deletion =
+    Either (Keyword (codes "set") ∷ []) (Both (λ action columns. (action, columns)) setting column_list) (mapped (λ action. (action, None)) plain_action)
 
--- on delete, and on update
-unfoldable pub actions : Rule (Action × Action)
+-- a list of columns stands behind ON DELETE alone
+abbrev pub update_list : Bytes → List Refusal
+update_list text = refuse (Sign OpenParen ∷ []) text ∷ []
+
+abbrev pub null_list : Bytes
+null_list = codes "a column list with SET NULL is only supported for ON DELETE actions"
+
+abbrev pub default_list : Bytes
+default_list = codes "a column list with SET DEFAULT is only supported for ON DELETE actions"
+
+unfoldable pub update_setting : Rule Action
+update_setting =
+    word (codes "set")
+    ▸ Either (Keyword (codes "null") ∷ []) (end_without (update_list null_list) (says (codes "null") SetNull))
+    (end_without (update_list default_list) (says (codes "default") SetDefault))
+
+unfoldable pub action : Rule Action
+action = Either (Keyword (codes "set") ∷ []) update_setting plain_action
+
+-- what the other change does, where it is given
+abbrev pub action_on : {A : Type 0} → Bytes → Rule A → A → Rule A
+action_on change action otherwise = Either (Keyword (codes "on") ∷ []) (word (codes "on") ▸ word change ▸ action) (Done otherwise)
+
+-- on delete, with the list of the columns that it sets, and on update
+pub record Actions : Type 0 where
+  pub on_delete : Action
+  pub set_columns : Option (List Bytes)
+  pub on_update : Action
+
+abbrev pub actions_of : Action × Option (List Bytes) → Action → Actions
+actions_of deletion on_update = record { on_delete = deletion.0; set_columns = deletion.1; on_update = on_update }
+
+unfoldable pub actions : Rule Actions
 actions =
     Either (Keyword (codes "on") ∷ [])
     (word (codes "on")
-    ▸ Either (Keyword (codes "delete") ∷ []) (word (codes "delete") ▸ Both (λ on_delete on_update. (on_delete, on_update)) action (action_on (codes "update")))
-    (word (codes "update") ▸ Both (λ on_update on_delete. (on_delete, on_update)) action (action_on (codes "delete"))))
-    (Done (NoAction, NoAction))
+    ▸ Either (Keyword (codes "delete") ∷ []) (word (codes "delete") ▸ Both actions_of deletion (action_on (codes "update") action NoAction))
+    (word (codes "update") ▸ Both (λ on_update deletion. actions_of deletion on_update) action (action_on (codes "delete") deletion (NoAction, None))))
+    (Done (actions_of (NoAction, None) NoAction))
 
 -- a reference without its timing
 pub record Target : Type 0 where
   pub table : Bytes
   pub columns : Option (List Bytes)
   pub matching : Match
-  pub actions : Action × Action
+  pub actions : Actions
 
-abbrev pub target_of : Bytes → Option (List Bytes) × (Match × (Action × Action)) → Target
+abbrev pub target_of : Bytes → Option (List Bytes) × (Match × Actions) → Target
 target_of table (columns, (matching, actions)) = record { table = table; columns = columns; matching = matching; actions = actions }
 
 unfoldable pub target : Rule Target
@@ -184,8 +216,9 @@ reference_of target timing =
       table = target.table;
       columns = target.columns;
       matching = target.matching;
-      on_delete = target.actions.0;
-      on_update = target.actions.1;
+      on_delete = target.actions.on_delete;
+      set_columns = target.actions.set_columns;
+      on_update = target.actions.on_update;
       timing = timing;
     }
 

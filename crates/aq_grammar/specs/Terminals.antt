@@ -1,6 +1,6 @@
 -- The kinds of tokens that the rules of the grammar name.
-use Rattle.std.specs.Prelude.{ℕ, Bool, true, false, not, ◌&&◌, ◌||◌, ◌==◌, ◌^◌, List, [], ◌∷◌, length, nat_le, nat_lt, nat_eq, codes}
-use Rattle.std.specs.List.{list_any, starts_with}
+use Rattle.std.specs.Prelude.{ℕ, Bool, true, false, not, ◌&&◌, ◌||◌, ◌==◌, ◌^◌, List, [], ◌∷◌, length, drop, nat_le, nat_lt, nat_eq, codes}
+use Rattle.std.specs.List.{list_any, list_all, starts_with}
 use Rattle.aq_base.specs.Names.{Text as Bytes, same_text, is_reserved, is_short}
 use Rattle.aq_lex.specs.declared.token.Symbol.{Symbol}
 use Rattle.aq_lex.specs.declared.token.Symbol.TheVariants.{OpenParen, CloseParen, Comma, Semicolon, Dot, Plus, Minus, Times, Equal, Unequal, Less, AtMost, Greater, AtLeast, DollarQuote}
@@ -25,6 +25,8 @@ pub data Terminal : Type 0 where
   Literal : Terminal
   LiteralInCode : Terminal
   Message : Terminal
+  -- a text that is the code of an error
+  StateCode : Terminal
   Sign : Symbol → Terminal
   Heading : DirectiveName → Terminal
 
@@ -73,6 +75,14 @@ is_literal_in_code text = is_literal text && not (holds (codes "$$") text)
 
 abbrev pub is_message : Bytes → Bool
 is_message text = is_literal_in_code text && not (holds (codes "%") text)
+
+-- a digit or an upper-case letter
+abbrev pub is_code_byte : ℕ → Bool
+is_code_byte byte = (nat_le 48 byte && nat_le byte 57) || (nat_le 65 byte && nat_le byte 90)
+
+-- five digits and upper-case letters that don't end in `000`
+abbrev pub is_state_code : Bytes → Bool
+is_state_code text = (length text == 5) && (list_all is_code_byte text && not (same_text (drop 2 text) (codes "000")))
 
 abbrev pub is_plain_name : Lexeme → Bool
 is_plain_name (Word text) = is_name_word text
@@ -136,6 +146,7 @@ is_of_kind Number lexeme = number_is (λ number. nat_lt number (2 ^ 63)) lexeme
 is_of_kind Literal lexeme = text_is is_literal lexeme
 is_of_kind LiteralInCode lexeme = text_is is_literal_in_code lexeme
 is_of_kind Message lexeme = text_is is_message lexeme
+is_of_kind StateCode lexeme = text_is is_state_code lexeme
 is_of_kind (Sign symbol) lexeme = symbol_is symbol lexeme
 
 -- the token is of the kind

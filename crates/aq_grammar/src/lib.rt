@@ -17,12 +17,12 @@ pub use fault::ReadFault;
 pub use listing::{Form, listed};
 pub use naming::{column_list, names};
 pub use place::{RefusedPlace, refused_place};
-pub use prefixes::{behind_nots, behind_signs, nots, signs};
+pub use prefixes::{behind, nots, signs};
 pub use refusal::{
     refuse_behind_insert, refuse_behind_items, refuse_behind_key, refuse_behind_reference,
     refuse_in_code, refuse_joins, refuse_no_wait, refuse_not_after, refuse_not_valid,
     refuse_other_constraints, refuse_other_items, refuse_partial_match, refuse_returning,
-    refuse_serializable,
+    refuse_serializable, refuse_update_list,
 };
 pub use refused::{naming_fault, passes_limit, unsupported};
 pub use scope::Scope;
@@ -30,5 +30,5 @@ pub use sections::{is_session_word, refuse_in_session, refuse_in_setup};
 pub use terminals::{
     Read, are_words, count, heading, is_heading, is_literal, is_name, is_name_of, is_number,
     is_one_of, is_one_of_signs, is_plain_name, is_symbol, is_word, literal, message, name,
-    name_but, name_of, number, plain_name, public_name, says, sign, word,
+    name_but, name_of, number, plain_name, public_name, says, sign, state_code, word,
 };

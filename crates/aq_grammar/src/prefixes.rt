@@ -1,7 +1,6 @@
 //! Operators before an operand.
 
 ghost use Rattle.std.specs.Prelude.{◌≡◌, [], ◌∷◌, codes, replicate, IfOk};
-ghost use Rattle.aq_base.specs.declared.expr.Expr.TheVariants.{Negate, Not};
 ghost use Rattle.aq_lex.specs.declared.token.Symbol.TheVariants.{Minus};
 ghost use Rattle.aq_grammar.specs.Terminals.{Keyword, Sign};
 ghost use Rattle.aq_grammar.specs.Forms.{word, sign};
@@ -11,7 +10,7 @@ ghost use Rattle.aq_grammar.specs.Reading.{read_many};
 ghost use Rattle.aq_grammar.specs.Steps.{Gives};
 
 use crate::terminals::{Read, is_symbol, is_word};
-use aq_base::{Boxed, Expr, NoMemory};
+use aq_base::{Boxed, Expr, NoMemory, UnaryOperator};
 use aq_lex::{Lexed, Symbol};
 use std::alloc::Global;
 
@@ -41,29 +40,18 @@ pub fn nots<'a>(tokens: &Lexed<'a>) -> Read<'a, u64>
     Ok((count, rest))
 }
 
-/// An expression behind so many signs.
+/// An expression behind so many of an operator.
 #[tactic(auto, using(crate::proofs::Loops::one_before))]
-pub fn behind_signs(alloc: Global, count: u64, e: Expr) -> Result<Expr, NoMemory>
-    ensures { IfOk result (λ made. made ≡ before Negate (replicate count tt) e) }
+pub fn behind(alloc: Global, operator: UnaryOperator, count: u64, e: Expr) -> Result<Expr, NoMemory>
+    ensures { IfOk result (λ made. made ≡ before operator (replicate count tt) e) }
 {
     let mut made = e;
     let mut left = count;
-    'signs: while left > 0 {
-        made = Expr::Negate(Boxed::new(alloc, made)?);
-        left -= 1;
-    }
-    Ok(made)
-}
-
-/// An expression behind so many NOTs.
-#[tactic(auto, using(crate::proofs::Loops::one_before))]
-pub fn behind_nots(alloc: Global, count: u64, e: Expr) -> Result<Expr, NoMemory>
-    ensures { IfOk result (λ made. made ≡ before Not (replicate count tt) e) }
-{
-    let mut made = e;
-    let mut left = count;
-    'nots: while left > 0 {
-        made = Expr::Not(Boxed::new(alloc, made)?);
+    'operators: while left > 0 {
+        made = Expr::Unary {
+            operator,
+            operand: Boxed::new(alloc, made)?,
+        };
         left -= 1;
     }
     Ok(made)

@@ -8,7 +8,7 @@ ghost use Rattle.aq_grammar.specs.Bodies.{unsupported_statements, refused_in_cod
 ghost use Rattle.aq_grammar.specs.Changes.{joins, returning, on_conflict, no_wait};
 ghost use Rattle.aq_grammar.specs.Statements.{other_objects};
 ghost use Rattle.aq_grammar.specs.Steps.{RefusesSo};
-ghost use Rattle.aq_grammar.specs.Tables.{behind_key, other_constraints, other_items, not_valid, partial_match, behind_items};
+ghost use Rattle.aq_grammar.specs.Tables.{behind_key, other_constraints, other_items, not_valid, partial_match, update_list, behind_items};
 ghost use Rattle.aq_grammar.specs.Transactions.{serializable};
 ghost use Rattle.aq_grammar.specs.Triggers.{not_after};
 
@@ -83,12 +83,12 @@ pub(crate) fn refuse_unsupported_statements(
     Ok(())
 }
 
-/// What is refused where a statement of a code may begin, where so many more IFs may be opened.
+/// What is refused where a statement of a code may begin, where so many more IFs and blocks may be opened.
 #[tactic(auto, unfolding(crate::specs::Steps::RefusesSo), using(crate::proofs::Refusing::refuses_as, crate::proofs::Refusing::refuses_alike))]
 pub fn refuse_in_code(alloc: Global, tokens: &Lexed<'_>, room: usize) -> Result<(), ReadFault>
     ensures { RefusesSo (refused_in_code room) result tokens.now }
 {
-    if room == 0 && is_word(tokens, b"if") {
+    if room == 0 && (is_word(tokens, b"if") || is_word(tokens, b"begin")) {
         return Err(passes_limit(alloc, tokens, "IF nesting limit of 100 reached"));
     }
     refuse_unsupported_statements(alloc, tokens)
@@ -194,6 +194,16 @@ pub fn refuse_partial_match(alloc: Global, tokens: &Lexed<'_>) -> Result<(), Rea
 {
     if are_words(tokens, b"match", b"partial") {
         return Err(unsupported(alloc, tokens, "MATCH PARTIAL is not supported"));
+    }
+    Ok(())
+}
+
+/// A list of columns stands behind ON DELETE alone.
+pub fn refuse_update_list(alloc: Global, tokens: &Lexed<'_>, text: &str) -> Result<(), ReadFault>
+    ensures { RefusesSo (update_list text.now) result tokens.now }
+{
+    if is_symbol(tokens, Symbol::OpenParen) {
+        return Err(unsupported(alloc, tokens, text));
     }
     Ok(())
 }

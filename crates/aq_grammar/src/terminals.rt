@@ -1,18 +1,19 @@
 //! Reading one token.
 
-ghost use Rattle.std.specs.Prelude.{◌≡◌, ◌∷◌, [], pos, Option, Some, None, false, not, length, map, nat_le, IfOk, option_map, unwrap_or, if◌then◌else◌};
-ghost use Rattle.std.specs.List.{list_any};
+ghost use Rattle.std.specs.Prelude.{◌≡◌, ◌∷◌, [], pos, Option, Some, None, false, not, length, map, nat_le, codes, IfOk, option_map, unwrap_or, if◌then◌else◌};
+ghost use Rattle.std.specs.List.{list_any, list_all};
+ghost use Rattle.aq_base.specs.Names.{same_text};
 ghost use Rattle.aq_lex.specs.Lexemes.{first_text};
-ghost use Rattle.aq_grammar.specs.Terminals.{begins, begin_with, Keyword, Sign, Name, NameOf, NameBut, PlainName, Number, Count, Literal, LiteralInCode, Message, Heading, text_of, number_of, holds};
+ghost use Rattle.aq_grammar.specs.Terminals.{begins, begin_with, Keyword, Sign, Name, NameOf, NameBut, PlainName, Number, Count, Literal, LiteralInCode, Message, StateCode, Heading, text_of, number_of, is_code_byte, is_state_code, holds};
 ghost use Rattle.aq_grammar.specs.Rules.{Token};
 ghost use Rattle.aq_grammar.specs.Expressions.{literal_in};
 ghost use Rattle.aq_grammar.specs.Nonterminals.{reads};
 ghost use Rattle.aq_grammar.specs.Forms.{word, says, sign, name, public_name};
-ghost use Rattle.aq_grammar.specs.Steps.{Gives, read_text, first_text_of, first_count};
+ghost use Rattle.aq_grammar.specs.Steps.{Gives, read_text, first_text_of, first_count, first_code};
 
 use crate::fault::{ReadFault, syntax};
 use crate::scope::Scope;
-use aq_base::{NoMemory, TextVal};
+use aq_base::{Code, NoMemory, TextVal};
 use aq_lex::{Directive, Lexed, Symbol, TokenKind};
 use std::alloc::Global;
 
@@ -370,6 +371,70 @@ pub fn literal<'a>(alloc: Global, tokens: &Lexed<'a>, scope: Scope) -> Read<'a, 
 {
     let is_there = is_literal(alloc, tokens, scope)?;
     text_if(alloc, tokens, is_there)
+}
+
+/// A digit or an upper-case letter.
+fn is_code_byte(byte: u8) -> bool
+    ensures { result ≡ is_code_byte byte }
+{
+    byte.is_ascii_digit() || byte.is_ascii_uppercase()
+}
+
+fn are_code_bytes(text: &[u8]) -> bool
+    ensures { result ≡ list_all is_code_byte text.now }
+{
+    text.iter().all(|byte| is_code_byte(*byte))
+}
+
+fn is_three_zeros(text: &[u8]) -> bool
+    ensures { result ≡ same_text text.now (codes "000") }
+{
+    text == b"000".as_slice()
+}
+
+/// Whether the text is five digits and upper-case letters that don't end in `000`.
+fn is_state_code(text: &[u8]) -> bool
+    ensures { result ≡ is_state_code text.now }
+{
+    if text.len() != 5 {
+        return false;
+    }
+    let (_, ending) = text.split_at(2);
+    are_code_bytes(text) && !is_three_zeros(ending)
+}
+
+/// The code that a text is.
+fn code_of(text: &[u8]) -> Option<Code>
+    ensures { result ≡ if is_state_code text.now then Some (record { 0 = text.now }) else None }
+{
+    if !is_state_code(text) {
+        return None;
+    }
+    let mut code = [0; 5];
+    code.copy_from_slice(text);
+    Some(Code(code))
+}
+
+/// The code that the text of the first token is.
+#[tactic(auto, using(crate::proofs::Tokens::code_is))]
+fn first_code(alloc: Global, tokens: &Lexed<'_>) -> Result<Option<Code>, NoMemory>
+    ensures { IfOk result (λ code. code ≡ first_code tokens.now) }
+{
+    match literal_text(alloc, tokens)? {
+        Some(text) => Ok(code_of(text.bytes())),
+        None => Ok(None),
+    }
+}
+
+/// The code of an error.
+#[tactic(auto, using(crate::proofs::Tokens::code_is_read))]
+pub fn state_code<'a>(alloc: Global, tokens: &Lexed<'a>) -> Read<'a, Code>
+    ensures { Gives (λ x. x) result (reads (Token StateCode (λ token. record { 0 = text_of token })) tokens.now) }
+{
+    match first_code(alloc, tokens)? {
+        Some(code) => Ok((code, tokens.rest())),
+        None => Err(syntax(tokens)),
+    }
 }
 
 /// Whether the first token is a message within code: a text between quotes that holds no `$$` and no `%`.

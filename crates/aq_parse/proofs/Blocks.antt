@@ -1,102 +1,68 @@
 -- How the statements of a code are read, and that fewer tokens are left behind them.
-use Rattle.std.proofs.Common.{◌≡◌, ℕ, ◌≤◌, ◌<◌, ◌&&◌, true, false, List, [], ◌∷◌, ◌++◌, length, codes, None, Ok, Err, refl, sym, subst, arith, le_refl}
-use Rattle.std.proofs.lemmas.Bool.{and_parts}
+use Rattle.std.proofs.Common.{◌≡◌, ℕ, ◌≤◌, ◌<◌, true, false, List, [], ◌∷◌, ◌++◌, length, codes, None, Ok, Err, refl, sym, ap, ◌∙◌, subst, arith, le_refl}
+use Rattle.aq_base.specs.Names.{Text as Bytes}
 use Rattle.aq_base.specs.declared.expr.Expr.{Expr}
 use Rattle.aq_base.specs.declared.body.BodyStatement.{BodyStatement}
 use Rattle.aq_base.specs.declared.body.ElseIf.{ElseIf}
+use Rattle.aq_base.specs.declared.body.Handler.{Handler}
+use Rattle.aq_base.specs.declared.body.Condition.{Condition}
 use Rattle.aq_lex.specs.Lexemes.{PlacedLexeme}
 use Rattle.aq_lex.specs.declared.token.Symbol.TheVariants.{Semicolon}
 use Rattle.aq_grammar.specs.declared.scope.Scope.TheVariants.{InCode}
 use Rattle.aq_grammar.specs.declared.fault.ReadFault.{ReadFault}
-use Rattle.aq_grammar.specs.Terminals.{Keyword, Sign, begins}
-use Rattle.aq_grammar.specs.Rules.{Nonterminal, Expression, Block, Both, Call, refused}
+use Rattle.aq_grammar.specs.Terminals.{Terminal, Keyword, Sign, begins}
+use Rattle.aq_grammar.specs.Rules.{Rule, Block, Both, Many, Call, refused}
 use Rattle.aq_grammar.specs.Forms.{word, sign, ◌▸◌}
-use Rattle.aq_grammar.specs.Expressions.{whole_expression, expression_limit}
-use Rattle.aq_grammar.specs.Bodies.{body_words, refused_in_code, less_room, inner_block, block, body_statement, else_if, branch}
-use Rattle.aq_grammar.specs.Sets.{marks_by, is_fit_by, many_fit}
-use Rattle.aq_grammar.specs.Reading.{Outcome, Read, read_many}
-use Rattle.aq_grammar.specs.Nonterminals.{rules, marks, reads_called, reads}
+use Rattle.aq_grammar.specs.Expressions.{whole_expression}
+use Rattle.aq_grammar.specs.Bodies.{body_words, refused_in_code, inner_block, block, body_statement, else_if, branch, condition, conditions, handler, handler_of}
+use Rattle.aq_grammar.specs.Reading.{Outcome, Read, ◌>>=◌, read_many, read_each}
+use Rattle.aq_grammar.specs.Nonterminals.{rules, reads_called, reads}
 use Rattle.aq_grammar.specs.Steps.{Fails, RefusesSo}
-use Rattle.aq_grammar.proofs.Fit.{rules_fit}
-use Rattle.aq_grammar.proofs.Fuel.{Shortens, shortens_at_least, shortens_if_any, called_shortens, token_shortens, both_shortens, each_shortens, limited_shortens, shortens_by, called_shortens_by}
+use Rattle.aq_grammar.proofs.Fuel.{Shortens, token_shortens, both_shortens}
 use Rattle.aq_grammar.proofs.Grammar.{is_read_so}
-use Rattle.aq_grammar.proofs.Loops.{Stands, goes_on_with, fails_with, some_tokens, many_begin, is_free, refuses_with}
-use Rattle.aq_parse.specs.Bodies.{condition_then, ended_statement, else_ifs}
+use Rattle.aq_grammar.proofs.NoLonger.{reads_any, no_longer}
+use Rattle.aq_grammar.proofs.Loops.{Stands, goes_on_with, fails_with, fails_on, ends_with_all, handed_on, some_tokens, many_begin, is_free, refuses_with}
+use Rattle.aq_parse.specs.Bodies.{condition_then, conditions_then, or_condition, ended_statement, else_ifs, some}
 
--- what is left is no longer, or shorter, than what there was
-pub left_is_no_longer : {A : Type 0} (size : ℕ) (outcome : Outcome A) (x : A) (rest : List PlacedLexeme) → Shortens true size outcome → outcome ≡ Read x rest → length rest ≤ size
-left_is_no_longer size outcome x rest shortens read = let (less, shorter) = subst (Shortens true size) read shortens in less
-
-pub left_is_shorter : {A : Type 0} (size : ℕ) (outcome : Outcome A) (x : A) (rest : List PlacedLexeme) → Shortens false size outcome → outcome ≡ Read x rest → length rest < size
-left_is_shorter size outcome x rest shortens read = let (less, shorter) = subst (Shortens false size) read shortens in shorter refl
-
-pub called_is_no_longer : (n : Nonterminal) (tokens : List PlacedLexeme) → Shortens true (length tokens) (reads_called n tokens)
-unfolding reads_called
-called_is_no_longer n tokens = shortens_if_any (marks n).is_empty (length tokens) (reads_called n tokens) (called_shortens_by rules marks rules_fit n tokens)
-
-expression_is_no_longer : (tokens : List PlacedLexeme) → Shortens true (length tokens) (reads (whole_expression InCode) tokens)
-unfolding whole_expression
-expression_is_no_longer tokens =
-    limited_shortens true expression_limit _ (reads (Call (Expression InCode) (λ e. e)))
-    (λ front. called_shortens true (length front) (λ e. e) (reads_called (Expression InCode) front) (called_is_no_longer (Expression InCode) front)) tokens
-
-pub condition_is_no_longer : (tokens : List PlacedLexeme) → Shortens true (length tokens) (reads condition_then tokens)
-condition_is_no_longer tokens =
-    both_shortens (λ x y. x) true true (reads (whole_expression InCode)) (λ x. reads (word (codes "then"))) tokens (expression_is_no_longer tokens)
-    (λ x rest. shortens_at_least true (length rest) _ (token_shortens (Keyword (codes "then")) (λ token. tt) rest))
-
-statement_fits : (room : ℕ) → is_fit_by marks (body_statement room) ≡ true
-unfolding rules block
-statement_fits room =
-    let (ended, many) = and_parts (is_fit_by marks (ended_statement room)) (many_fit body_words (refused_in_code room) (marks_by marks (ended_statement room))) (rules_fit.fit (Block room)) in
-    let (parts, apart) = and_parts (is_fit_by marks (body_statement room) && is_fit_by marks (sign Semicolon)) _ ended in
-    let (statement, semicolon) = and_parts (is_fit_by marks (body_statement room)) (is_fit_by marks (sign Semicolon)) parts in
-    statement
-
-statement_is_no_longer : (room : ℕ) (tokens : List PlacedLexeme) → Shortens true (length tokens) (reads (body_statement room) tokens)
-unfolding reads_called
-statement_is_no_longer room tokens =
-    shortens_if_any (marks_by marks (body_statement room)).is_empty (length tokens) (reads (body_statement room) tokens)
-    (shortens_by reads_called marks (called_shortens_by rules marks rules_fit) (body_statement room) (statement_fits room) tokens)
-
-ended_shortens : (room : ℕ) (tokens : List PlacedLexeme) → Shortens false (length tokens) (reads (ended_statement room) tokens)
-ended_shortens room tokens =
-    both_shortens (λ x y. x) true false (reads (body_statement room)) (λ x. reads (sign Semicolon)) tokens (statement_is_no_longer room tokens)
-    (λ x. token_shortens (Sign Semicolon) (λ token. tt))
+-- a form that begins with a word leaves fewer tokens
+behind_word : {A : Type 0} (text : Bytes) (r : Rule A) (tokens rest : List PlacedLexeme) (x : A) → reads (word text ▸ r) tokens ≡ Read x rest → length rest < length tokens
+behind_word text r tokens rest x read =
+    let (less, shorter) =
+    subst (Shortens false (length tokens)) read
+    (both_shortens (λ x y. y) false true (reads (word text)) (λ x. reads r) tokens (token_shortens (Keyword text) (λ token. tt) tokens) (λ x. reads_any r)) in
+    shorter refl
 
 pub ended_is_shorter : (room : ℕ) (tokens rest : List PlacedLexeme) (x : BodyStatement) → reads (ended_statement room) tokens ≡ Read x rest → length rest < length tokens
-ended_is_shorter room tokens rest x read = left_is_shorter (length tokens) (reads (ended_statement room) tokens) x rest (ended_shortens room tokens) read
-
-then_block : (room : ℕ) (tokens : List PlacedLexeme) → Shortens true (length tokens) (reads (word (codes "then") ▸ inner_block room) tokens)
-then_block room tokens =
-    both_shortens (λ x y. y) true true (reads (word (codes "then"))) (λ x. reads (inner_block room)) tokens
-    (shortens_at_least true (length tokens) _ (token_shortens (Keyword (codes "then")) (λ token. tt) tokens))
-    (λ x rest. called_shortens true (length rest) (λ statements. statements) (reads_called (Block (less_room room)) rest) (called_is_no_longer (Block (less_room room)) rest))
-
-else_if_shortens : (room : ℕ) (tokens : List PlacedLexeme) → Shortens false (length tokens) (reads (else_if room) tokens)
-unfolding else_if
-else_if_shortens room tokens =
-    both_shortens (λ x y. y) false true (reads (word (codes "elsif"))) (λ x. reads (Both branch (whole_expression InCode) (word (codes "then") ▸ inner_block room))) tokens
-    (token_shortens (Keyword (codes "elsif")) (λ token. tt) tokens)
-    (λ x rest. both_shortens branch true true (reads (whole_expression InCode)) (λ e. reads (word (codes "then") ▸ inner_block room)) rest (expression_is_no_longer rest)
-    (λ e. then_block room))
+ended_is_shorter room tokens rest x read =
+    let (less, shorter) =
+    subst (Shortens false (length tokens)) read
+    (both_shortens (λ x y. x) true false (reads (body_statement room)) (λ x. reads (sign Semicolon)) tokens (reads_any (body_statement room) tokens)
+    (λ x. token_shortens (Sign Semicolon) (λ token. tt))) in
+    shorter refl
 
 pub else_if_is_shorter : (room : ℕ) (tokens rest : List PlacedLexeme) (x : ElseIf) → reads (else_if room) tokens ≡ Read x rest → length rest < length tokens
-else_if_is_shorter room tokens rest x read = left_is_shorter (length tokens) (reads (else_if room) tokens) x rest (else_if_shortens room tokens) read
+unfolding else_if
+else_if_is_shorter room tokens rest x read = behind_word (codes "elsif") (Both branch (whole_expression InCode) (word (codes "then") ▸ inner_block room)) tokens rest x read
 
-else_ifs_shorten : (room : ℕ) (tokens : List PlacedLexeme) → Shortens true (length tokens) (reads (else_ifs room) tokens)
-else_ifs_shorten room tokens =
-    called_shortens true (length tokens) (λ xs. xs) _
-    (each_shortens (length tokens) (Keyword (codes "elsif") ∷ []) [] (reads (else_if room)) (λ rest. shortens_at_least true (length rest) _ (else_if_shortens room rest)) tokens)
+pub handler_is_shorter : (room : ℕ) (tokens rest : List PlacedLexeme) (x : Handler) → reads (handler room) tokens ≡ Read x rest → length rest < length tokens
+unfolding handler
+handler_is_shorter room tokens rest x read = behind_word (codes "when") (Both handler_of conditions (word (codes "then") ▸ inner_block room)) tokens rest x read
+
+pub or_condition_is_shorter : (tokens rest : List PlacedLexeme) (x : Condition) → reads or_condition tokens ≡ Read x rest → length rest < length tokens
+or_condition_is_shorter tokens rest x read = behind_word (codes "or") condition tokens rest x read
 
 pub else_ifs_are_no_longer : (room : ℕ) (tokens rest : List PlacedLexeme) (x : List ElseIf) → reads (else_ifs room) tokens ≡ Read x rest → length rest ≤ length tokens
-else_ifs_are_no_longer room tokens rest x read = left_is_no_longer (length tokens) (reads (else_ifs room) tokens) x rest (else_ifs_shorten room tokens) read
+else_ifs_are_no_longer room tokens rest x read = no_longer (else_ifs room) tokens rest x read
 
 pub condition_leaves : (tokens rest : List PlacedLexeme) (x : Expr) → reads condition_then tokens ≡ Read x rest → length rest ≤ length tokens
-condition_leaves tokens rest x read = left_is_no_longer (length tokens) (reads condition_then tokens) x rest (condition_is_no_longer tokens) read
+condition_leaves tokens rest x read = no_longer condition_then tokens rest x read
+
+pub conditions_leave : (tokens rest : List PlacedLexeme) (x : List Condition) → reads conditions_then tokens ≡ Read x rest → length rest ≤ length tokens
+conditions_leave tokens rest x read = no_longer conditions_then tokens rest x read
 
 pub block_leaves : (room : ℕ) (tokens rest : List PlacedLexeme) (x : List BodyStatement) → reads_called (Block room) tokens ≡ Read x rest → length rest ≤ length tokens
-block_leaves room tokens rest x read = left_is_no_longer (length tokens) (reads_called (Block room) tokens) x rest (called_is_no_longer (Block room) tokens) read
+block_leaves room tokens rest x read =
+    no_longer (Call (Block room) (λ statements. statements)) tokens rest x (ap (λ (o : Outcome (List BodyStatement)). o >>= λ statements last. Read statements last) read)
 
 block_is : (room : ℕ) (tokens : List PlacedLexeme) → reads_called (Block room) tokens ≡ read_many body_words (refused_in_code room) (λ xs. xs) (reads (ended_statement room)) tokens
 unfolding rules block
@@ -165,3 +131,41 @@ else_ifs_go_on room tokens rest after branches next so_far begin read =
       stands = goes_on_with (Keyword (codes "elsif") ∷ []) [] (reads (else_if room)) branches rest after next _ shorter so_far.stands refl begin read;
       no_longer = omega arith;
     }
+
+-- what has been read of at least one form
+pub record AreSome {A : Type 0} (kind : Terminal) (first next : Rule A) (tokens rest : List PlacedLexeme) (found : List A) : Type 0 where
+  pub stands : Stands (kind ∷ []) [] (reads next) found rest (reads (some kind first next) tokens)
+  pub no_longer : length rest ≤ length tokens
+
+pub some_begin : {A : Type 0} (kind : Terminal) (first next : Rule A) (tokens rest : List PlacedLexeme) (x : A) → reads first tokens ≡ Read x rest
+    → AreSome kind first next tokens rest (x ∷ [])
+some_begin {A} kind first next tokens rest x read = record {
+  stands =
+      record {
+        most = length rest;
+        enough = le_refl (length rest);
+        same =
+            ap (λ (o : Outcome (List A)). o >>= λ others last. Read (x ∷ others) last) (sym (handed_on (read_each (length rest) (kind ∷ []) [] (reads next) rest)))
+            ∙ ap (λ (o : Outcome A). o >>= λ y behind. reads (Many (kind ∷ []) [] (λ others. others) next) behind >>= λ others last. Read (y ∷ others) last) (sym read);
+      };
+  no_longer = no_longer first tokens rest x read;
+}
+
+pub some_go_on : {A : Type 0} (kind : Terminal) (first next : Rule A) (tokens rest after : List PlacedLexeme) (found : List A) (x : A) → AreSome kind first next tokens rest found
+    → begins (kind ∷ []) rest ≡ true → reads next rest ≡ Read x after → length after < length rest → AreSome kind first next tokens after (found ++ x ∷ [])
+some_go_on kind first next tokens rest after found x so_far begin read shorter =
+    let before : length rest ≤ length tokens = so_far.no_longer in
+    record { stands = goes_on_with (kind ∷ []) [] (reads next) found rest after x _ shorter so_far.stands refl begin read; no_longer = omega arith }
+
+pub some_fail_first : {A : Type 0} (kind : Terminal) (first next : Rule A) (fault : ReadFault) (tokens : List PlacedLexeme) → Fails fault (reads first tokens)
+    → Fails fault (reads (some kind first next) tokens)
+some_fail_first kind first next fault tokens fails = fails_on fault (reads first tokens) _ fails
+
+pub some_fail : {A : Type 0} (kind : Terminal) (first next : Rule A) (fault : ReadFault) (tokens rest : List PlacedLexeme) (found : List A)
+    → AreSome kind first next tokens rest found → begins (kind ∷ []) rest ≡ true → Fails fault (reads next rest) → Fails fault (reads (some kind first next) tokens)
+some_fail kind first next fault tokens rest found so_far begin fails =
+    fails_with (kind ∷ []) [] (reads next) fault found rest _ (some_tokens (kind ∷ []) [] (reads next) rest begin) so_far.stands refl begin fails
+
+pub some_end : {A : Type 0} (kind : Terminal) (first next : Rule A) (tokens rest : List PlacedLexeme) (found : List A) → AreSome kind first next tokens rest found
+    → begins (kind ∷ []) rest ≡ false → reads (some kind first next) tokens ≡ Read found rest
+some_end kind first next tokens rest found so_far ended = ends_with_all (kind ∷ []) [] (reads next) found rest _ so_far.stands refl ended

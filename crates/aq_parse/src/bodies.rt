@@ -1,17 +1,18 @@
 //! The code of a trigger's function (PostgreSQL manual, chapter "PL/pgSQL").
 
 ghost use Rattle.std.specs.Prelude.{◌≡◌};
-ghost use Rattle.aq_grammar.specs.Bodies.{body_words, body_statement, code, else_if, if_statement, less_room, otherwise, raise, return_};
+ghost use Rattle.aq_grammar.specs.Bodies.{body, body_words, body_statement, code, else_if, handler, handlers, if_statement, less_room, otherwise, raise, return_};
 ghost use Rattle.aq_grammar.specs.Nonterminals.{reads, reads_called};
 ghost use Rattle.aq_grammar.specs.Rules.{Block};
 ghost use Rattle.aq_grammar.specs.Steps.{Gives};
 ghost use Rattle.aq_grammar.specs.Terminals.{begins};
-ghost use Rattle.aq_parse.specs.Bodies.{returned, insert_in_body, update_in_body, delete_in_body, set_in_body, plain_statement, ended_statement, else_ifs, condition_then, semicolon};
+ghost use Rattle.aq_parse.specs.Bodies.{returned, insert_in_body, update_in_body, delete_in_body, set_in_body, plain_statement, block_in_body, ended_statement, else_ifs, condition_then, some_handlers, semicolon};
 
+use crate::conditions::conditions_then;
 use crate::delete::delete;
 use crate::insert::insert;
 use crate::update::update;
-use aq_base::{BodyStatement, ElseIf, Expr, List, Returned};
+use aq_base::{Body, BodyStatement, ElseIf, Expr, Handler, List, Returned};
 use aq_grammar::{
     Read, Scope, is_one_of, is_symbol, is_word, message, refuse_in_code, says, sign, word,
 };
@@ -86,7 +87,7 @@ fn set_in_body<'a>(alloc: Global, tokens: &Lexed<'a>) -> Read<'a, BodyStatement>
     Ok((BodyStatement::SetConstraints(set), rest))
 }
 
-/// A statement of a code but IF.
+/// A statement of a code but IF and a block.
 fn plain_statement<'a>(alloc: Global, tokens: &Lexed<'a>) -> Read<'a, BodyStatement>
     ensures { Gives (λ x. x) result (reads plain_statement tokens.now) }
 {
@@ -111,11 +112,13 @@ fn begins_statement(tokens: &Lexed<'_>) -> bool
 {
     is_one_of(
         tokens,
-        &["if", "raise", "return", "insert", "update", "delete", "set"],
+        &[
+            "if", "begin", "raise", "return", "insert", "update", "delete", "set",
+        ],
     )
 }
 
-/// How many IFs may be opened within one more.
+/// How many IFs and blocks may be opened within one more.
 fn less_room(room: usize) -> usize
     ensures { result ≡ less_room room }
 {
@@ -142,10 +145,10 @@ fn semicolon<'a>(tokens: &Lexed<'a>) -> Read<'a, Option<()>>
     Ok((Some(()), rest))
 }
 
-/// How many IFs may be open.
-const MAX_OPEN_IFS: usize = 100;
+/// How many IFs and blocks may be open.
+const MAX_OPEN: usize = 100;
 
-/// A statement of a code in which so many more IFs may be opened.
+/// A statement of a code in which so many more IFs and blocks may be opened.
 #[cycle(code)]
 #[tactic(auto, unfolding(aq_grammar::specs::Bodies::body_statement))]
 fn body_statement<'a>(alloc: Global, room: usize, tokens: &Lexed<'a>) -> Read<'a, BodyStatement>
@@ -153,6 +156,8 @@ fn body_statement<'a>(alloc: Global, room: usize, tokens: &Lexed<'a>) -> Read<'a
 {
     if is_word(tokens, b"if") {
         if_statement(alloc, room, tokens)
+    } else if is_word(tokens, b"begin") {
+        block_in_body(alloc, room, tokens)
     } else {
         plain_statement(alloc, tokens)
     }
@@ -168,7 +173,7 @@ fn ended_statement<'a>(alloc: Global, room: usize, tokens: &Lexed<'a>) -> Read<'
     Ok((statement, rest))
 }
 
-/// The statements of a code in which so many more IFs may be opened.
+/// Statements of a code in which so many more IFs and blocks may be opened.
 #[cycle(code)]
 fn block<'a>(alloc: Global, room: usize, tokens: &Lexed<'a>) -> Read<'a, List<BodyStatement>>
     ensures { Gives (λ x. x) result (reads_called (Block room) tokens.now) }
@@ -254,16 +259,95 @@ fn if_statement<'a>(alloc: Global, room: usize, tokens: &Lexed<'a>) -> Read<'a, 
     ))
 }
 
+/// `WHEN conditions THEN` and its statements.
+#[cycle(code)]
+#[tactic(auto, unfolding(aq_grammar::specs::Bodies::handler))]
+fn handler<'a>(alloc: Global, room: usize, tokens: &Lexed<'a>) -> Read<'a, Handler>
+    ensures { Gives (λ x. x) result (reads (handler room) tokens.now) }
+{
+    let ((), rest) = word(tokens, b"when")?;
+    let (conditions, rest) = conditions_then(alloc, &rest)?;
+    let (statements, rest) = block(alloc, less_room(room), &rest)?;
+    Ok((
+        Handler {
+            conditions,
+            statements,
+        },
+        rest,
+    ))
+}
+
+/// One handler or more.
+#[cycle(code)]
+fn some_handlers<'a>(alloc: Global, room: usize, tokens: &Lexed<'a>) -> Read<'a, List<Handler>>
+    ensures { Gives (λ x. x) result (reads (some_handlers room) tokens.now) }
+{
+    let mut found = List::new(alloc);
+    let (first, mut rest) = handler(alloc, room, tokens)?;
+    found.push(first)?;
+    'handlers: while is_word(&rest, b"when") {
+        let (next, after) = handler(alloc, room, &rest)?;
+        found.push(next)?;
+        rest = after;
+    }
+    Ok((found, rest))
+}
+
+/// EXCEPTION and the handlers, where they are there.
+#[cycle(code)]
+#[tactic(auto, unfolding(aq_grammar::specs::Bodies::handlers))]
+fn handlers<'a>(alloc: Global, room: usize, tokens: &Lexed<'a>) -> Read<'a, List<Handler>>
+    ensures { Gives (λ x. x) result (reads (handlers room) tokens.now) }
+{
+    if !is_word(tokens, b"exception") {
+        return Ok((List::new(alloc), tokens.copied()));
+    }
+    let ((), rest) = word(tokens, b"exception")?;
+    some_handlers(alloc, room, &rest)
+}
+
+/// A block, with which so many more IFs and blocks may be opened.
+#[cycle(code)]
+#[tactic(auto, unfolding(aq_grammar::specs::Bodies::body))]
+fn body<'a>(alloc: Global, room: usize, tokens: &Lexed<'a>) -> Read<'a, Body>
+    ensures { Gives (λ x. x) result (reads (body room) tokens.now) }
+{
+    let ((), rest) = word(tokens, b"begin")?;
+    let (statements, rest) = block(alloc, less_room(room), &rest)?;
+    let (handlers, rest) = handlers(alloc, room, &rest)?;
+    let ((), rest) = word(&rest, b"end")?;
+    Ok((
+        Body {
+            statements,
+            handlers,
+        },
+        rest,
+    ))
+}
+
+/// A block as a statement.
+#[cycle(code)]
+fn block_in_body<'a>(alloc: Global, room: usize, tokens: &Lexed<'a>) -> Read<'a, BodyStatement>
+    ensures { Gives (λ x. x) result (reads (block_in_body room) tokens.now) }
+{
+    let (found, rest) = body(alloc, room, tokens)?;
+    Ok((
+        BodyStatement::Block {
+            statements: found.statements,
+            handlers: found.handlers,
+        },
+        rest,
+    ))
+}
+
 /// The code of a function, between `$$`.
 #[tactic(auto, unfolding(aq_grammar::specs::Bodies::code))]
-pub(crate) fn code<'a>(alloc: Global, tokens: &Lexed<'a>) -> Read<'a, List<BodyStatement>>
+pub(crate) fn code<'a>(alloc: Global, tokens: &Lexed<'a>) -> Read<'a, Body>
     ensures { Gives (λ x. x) result (reads code tokens.now) }
 {
     let ((), rest) = sign(tokens, Symbol::DollarQuote)?;
-    let ((), rest) = word(&rest, b"begin")?;
-    let (statements, rest) = block(alloc, MAX_OPEN_IFS, &rest)?;
-    let ((), rest) = word(&rest, b"end")?;
+    let (found, rest) = body(alloc, MAX_OPEN, &rest)?;
     let (_, rest) = semicolon(&rest)?;
     let ((), rest) = sign(&rest, Symbol::DollarQuote)?;
-    Ok((statements, rest))
+    Ok((found, rest))
 }

@@ -6,7 +6,7 @@ ghost use Rattle.aq_grammar.specs.Triggers.{no_arguments, language, create_funct
 ghost use Rattle.aq_parse.specs.Functions.{function_head, function_body};
 
 use crate::bodies::code;
-use aq_base::{BodyStatement, CreateFunction, List, Statement, TextVal};
+use aq_base::{Body, CreateFunction, Statement, TextVal};
 use aq_grammar::{Read, is_word, public_name, sign, word};
 use aq_lex::{Lexed, Symbol};
 use std::alloc::Global;
@@ -40,7 +40,7 @@ fn function_head<'a>(alloc: Global, tokens: &Lexed<'a>) -> Read<'a, TextVal>
 }
 
 /// The code of a function, with its language before or behind it.
-fn function_body<'a>(alloc: Global, tokens: &Lexed<'a>) -> Read<'a, List<BodyStatement>>
+fn function_body<'a>(alloc: Global, tokens: &Lexed<'a>) -> Read<'a, Body>
     ensures { Gives (λ x. x) result (reads function_body tokens.now) }
 {
     if is_word(tokens, b"language") {

@@ -2,6 +2,7 @@
 #![tactic(auto)]
 
 mod bodies;
+mod conditions;
 mod delete;
 mod functions;
 mod insert;

@@ -7,13 +7,10 @@ ghost use Rattle.aq_grammar.specs.Steps.{Gives};
 
 use crate::atom::plain_atom;
 use crate::operators::{
-    comparison_of, comparison_sign, conjunction_of, disjunction_of, is_comparison, is_sum_sign,
-    negated, product_of, sum_of, sum_sign, tested,
+    binary, comparison_sign, is_comparison, is_sum_sign, negated, sum_sign, tested,
 };
-use aq_base::Expr;
-use aq_grammar::{
-    Read, Scope, behind_nots, behind_signs, is_symbol, is_word, nots, sign, signs, word,
-};
+use aq_base::{BinaryOperator, Expr, UnaryOperator};
+use aq_grammar::{Read, Scope, behind, is_symbol, is_word, nots, sign, signs, word};
 use aq_lex::{Lexed, Symbol};
 use std::alloc::Global;
 
@@ -40,7 +37,7 @@ fn signed<'a>(alloc: Global, scope: Scope, tokens: &Lexed<'a>) -> Read<'a, Expr>
 {
     let (count, rest) = signs(tokens)?;
     let (operand, rest) = atom(alloc, scope, &rest)?;
-    Ok((behind_signs(alloc, count, operand)?, rest))
+    Ok((behind(alloc, UnaryOperator::Negate, count, operand)?, rest))
 }
 
 /// Factors with `*` between them.
@@ -53,7 +50,7 @@ fn product<'a>(alloc: Global, scope: Scope, tokens: &Lexed<'a>) -> Read<'a, Expr
     'factors: while is_symbol(&rest, Symbol::Times) {
         let behind = rest.rest();
         let (right, after) = signed(alloc, scope, &behind)?;
-        left = product_of(alloc, left, right)?;
+        left = binary(alloc, left, BinaryOperator::Multiply, right)?;
         rest = after;
     }
     Ok((left, rest))
@@ -67,9 +64,9 @@ fn sum<'a>(alloc: Global, scope: Scope, tokens: &Lexed<'a>) -> Read<'a, Expr>
 {
     let (mut left, mut rest) = product(alloc, scope, tokens)?;
     'summands: while is_sum_sign(&rest) {
-        let (subtracts, behind) = sum_sign(&rest)?;
+        let (operator, behind) = sum_sign(&rest)?;
         let (right, after) = product(alloc, scope, &behind)?;
-        left = sum_of(alloc, left, subtracts, right)?;
+        left = binary(alloc, left, operator, right)?;
         rest = after;
     }
     Ok((left, rest))
@@ -87,7 +84,8 @@ fn comparison<'a>(alloc: Global, scope: Scope, tokens: &Lexed<'a>) -> Read<'a, E
     }
     let (comparison, rest) = comparison_sign(&rest)?;
     let (right, rest) = sum(alloc, scope, &rest)?;
-    Ok((comparison_of(alloc, left, comparison, right)?, rest))
+    let operator = BinaryOperator::Compare(comparison);
+    Ok((binary(alloc, left, operator, right)?, rest))
 }
 
 /// NULL, or what an operand is distinct from.
@@ -130,7 +128,7 @@ fn negation<'a>(alloc: Global, scope: Scope, tokens: &Lexed<'a>) -> Read<'a, Exp
 {
     let (count, rest) = nots(tokens)?;
     let (operand, rest) = test(alloc, scope, &rest)?;
-    Ok((behind_nots(alloc, count, operand)?, rest))
+    Ok((behind(alloc, UnaryOperator::Not, count, operand)?, rest))
 }
 
 /// Negations with AND between them.
@@ -143,7 +141,7 @@ fn conjunction<'a>(alloc: Global, scope: Scope, tokens: &Lexed<'a>) -> Read<'a, 
     'negations: while is_word(&rest, b"and") {
         let behind = rest.rest();
         let (right, after) = negation(alloc, scope, &behind)?;
-        left = conjunction_of(alloc, left, right)?;
+        left = binary(alloc, left, BinaryOperator::And, right)?;
         rest = after;
     }
     Ok((left, rest))
@@ -159,7 +157,7 @@ pub(crate) fn expression<'a>(alloc: Global, scope: Scope, tokens: &Lexed<'a>) ->
     'conjunctions: while is_word(&rest, b"or") {
         let behind = rest.rest();
         let (right, after) = conjunction(alloc, scope, &behind)?;
-        left = disjunction_of(alloc, left, right)?;
+        left = binary(alloc, left, BinaryOperator::Or, right)?;
         rest = after;
     }
     Ok((left, rest))

@@ -1,15 +1,15 @@
 //! The operators of expressions.
 
 ghost use Rattle.std.specs.Prelude.{◌≡◌, ◌∷◌, [], IfOk};
-ghost use Rattle.aq_base.specs.declared.expr.Expr.TheVariants.{Multiply, And, Or, Compare};
+ghost use Rattle.aq_base.specs.declared.expr.Expr.TheVariants.{Unary, Binary};
 ghost use Rattle.aq_lex.specs.declared.token.Symbol.TheVariants.{Plus, Minus};
 ghost use Rattle.aq_grammar.specs.Terminals.{begins, Sign};
 ghost use Rattle.aq_grammar.specs.Nonterminals.{reads};
 ghost use Rattle.aq_grammar.specs.Forms.{word};
-ghost use Rattle.aq_grammar.specs.Expressions.{sum_sign, with_summand, comparison_sign, comparison_signs, compares, negated, tested};
+ghost use Rattle.aq_grammar.specs.Expressions.{sum_sign, comparison_sign, comparison_signs, compares, negated, tested};
 ghost use Rattle.aq_grammar.specs.Steps.{Gives};
 
-use aq_base::{Boxed, Comparison, Expr, NoMemory};
+use aq_base::{BinaryOperator, Boxed, Comparison, Expr, NoMemory, UnaryOperator};
 use aq_grammar::{Read, is_one_of_signs, is_symbol, is_word, sign, word};
 use aq_lex::{Lexed, Symbol};
 use std::alloc::Global;
@@ -21,17 +21,17 @@ pub(crate) fn is_sum_sign(tokens: &Lexed<'_>) -> bool
     is_one_of_signs(tokens, &[Symbol::Plus, Symbol::Minus])
 }
 
-/// Whether what stands behind the sign is subtracted.
+/// `+` or `-`.
 #[tactic(auto, unfolding(aq_grammar::specs::Expressions::sum_sign))]
-pub(crate) fn sum_sign<'a>(tokens: &Lexed<'a>) -> Read<'a, bool>
+pub(crate) fn sum_sign<'a>(tokens: &Lexed<'a>) -> Read<'a, BinaryOperator>
     ensures { Gives (λ x. x) result (reads sum_sign tokens.now) }
 {
     if is_symbol(tokens, Symbol::Plus) {
         let ((), rest) = sign(tokens, Symbol::Plus)?;
-        return Ok((false, rest));
+        return Ok((BinaryOperator::Add, rest));
     }
     let ((), rest) = sign(tokens, Symbol::Minus)?;
-    Ok((true, rest))
+    Ok((BinaryOperator::Subtract, rest))
 }
 
 /// Whether a comparison stands there.
@@ -93,48 +93,30 @@ pub(crate) fn negated<'a>(tokens: &Lexed<'a>) -> Read<'a, bool>
     Ok((true, rest))
 }
 
-/// `left * right`
-pub(crate) fn product_of(alloc: Global, left: Expr, right: Expr) -> Result<Expr, NoMemory>
-    ensures { IfOk result (λ e. e ≡ Multiply left right) }
-{
-    let left = Boxed::new(alloc, left)?;
-    let right = Boxed::new(alloc, right)?;
-    Ok(Expr::Multiply(left, right))
-}
-
-/// `left + right`, or `left - right`
-pub(crate) fn sum_of(
+/// Two operands with an operator between them.
+pub(crate) fn binary(
     alloc: Global,
     left: Expr,
-    subtracts: bool,
+    operator: BinaryOperator,
     right: Expr,
 ) -> Result<Expr, NoMemory>
-    ensures { IfOk result (λ e. e ≡ with_summand left (subtracts, right)) }
+    ensures { IfOk result (λ e. e ≡ Binary left operator right) }
 {
     let left = Boxed::new(alloc, left)?;
     let right = Boxed::new(alloc, right)?;
-    if subtracts {
-        return Ok(Expr::Subtract(left, right));
-    }
-    Ok(Expr::Add(left, right))
-}
-
-/// Two operands with a comparison between them.
-pub(crate) fn comparison_of(
-    alloc: Global,
-    left: Expr,
-    comparison: Comparison,
-    right: Expr,
-) -> Result<Expr, NoMemory>
-    ensures { IfOk result (λ e. e ≡ Compare left comparison right) }
-{
-    let left = Boxed::new(alloc, left)?;
-    let right = Boxed::new(alloc, right)?;
-    Ok(Expr::Compare {
+    Ok(Expr::Binary {
         left,
-        comparison,
+        operator,
         right,
     })
+}
+
+/// An operand with an operator that stands behind it.
+fn unary(alloc: Global, operator: UnaryOperator, operand: Expr) -> Result<Expr, NoMemory>
+    ensures { IfOk result (λ e. e ≡ Unary operator operand) }
+{
+    let operand = Boxed::new(alloc, operand)?;
+    Ok(Expr::Unary { operator, operand })
 }
 
 /// An operand with what is told of it behind IS.
@@ -146,34 +128,10 @@ pub(crate) fn tested(
 ) -> Result<Expr, NoMemory>
     ensures { IfOk result (λ e. e ≡ tested operand (negated, right)) }
 {
-    let left = Boxed::new(alloc, operand)?;
     match right {
-        None if negated => Ok(Expr::IsNotNull(left)),
-        None => Ok(Expr::IsNull(left)),
-        Some(right) => {
-            let right = Boxed::new(alloc, right)?;
-            if negated {
-                return Ok(Expr::IsNotDistinct(left, right));
-            }
-            Ok(Expr::IsDistinct(left, right))
-        }
+        None if negated => unary(alloc, UnaryOperator::IsNotNull, operand),
+        None => unary(alloc, UnaryOperator::IsNull, operand),
+        Some(right) if negated => binary(alloc, operand, BinaryOperator::IsNotDistinct, right),
+        Some(right) => binary(alloc, operand, BinaryOperator::IsDistinct, right),
     }
-}
-
-/// `left AND right`
-pub(crate) fn conjunction_of(alloc: Global, left: Expr, right: Expr) -> Result<Expr, NoMemory>
-    ensures { IfOk result (λ e. e ≡ And left right) }
-{
-    let left = Boxed::new(alloc, left)?;
-    let right = Boxed::new(alloc, right)?;
-    Ok(Expr::And(left, right))
-}
-
-/// `left OR right`
-pub(crate) fn disjunction_of(alloc: Global, left: Expr, right: Expr) -> Result<Expr, NoMemory>
-    ensures { IfOk result (λ e. e ≡ Or left right) }
-{
-    let left = Boxed::new(alloc, left)?;
-    let right = Boxed::new(alloc, right)?;
-    Ok(Expr::Or(left, right))
 }

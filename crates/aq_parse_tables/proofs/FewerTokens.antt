@@ -31,7 +31,7 @@ timing_shortens tokens =
     (Shortens true (length tokens)) (λ e. nothing_shortens immediate tokens) (λ e. rule_shortens (t.perhaps_timing (not_valid ∷ [])) refl tokens))
 
 reference_shortens : (tokens : List PlacedLexeme) → Shortens false (length tokens) (read_column_reference tokens)
-unfolding read_column_reference marks t.target t.matching t.actions t.action t.setting public_name name names c.column_list
+unfolding read_column_reference marks t.target t.matching t.actions t.action t.update_setting t.deletion t.plain_action t.setting public_name name names c.column_list
 reference_shortens tokens =
     both_shortens reference_of false true (λ rest. reads t.target rest) (λ target. read_column_timing) tokens (rule_shortens t.target refl tokens) (λ target. timing_shortens)
 

@@ -8,5 +8,5 @@ shown target =
       table = target.table;
       columns = target.columns;
       matching = target.matching;
-      actions = (target.on_delete, target.on_update);
+      actions = record { on_delete = target.on_delete; set_columns = target.set_columns; on_update = target.on_update };
     }

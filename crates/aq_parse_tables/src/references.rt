@@ -1,13 +1,16 @@
 //! What a foreign key refers to, and what becomes of its rows (PostgreSQL manual, page CREATE TABLE, REFERENCES).
 
-ghost use Rattle.std.specs.Prelude.{◌≡◌};
+ghost use Rattle.std.specs.Prelude.{◌≡◌, None, codes};
 ghost use Rattle.aq_grammar.specs.Nonterminals.{reads};
 ghost use Rattle.aq_grammar.specs.Steps.{Gives};
-ghost use Rattle.aq_grammar.specs.Tables.{matching, setting, action, action_on, actions, target, reference_of};
+ghost use Rattle.aq_grammar.specs.Tables.{matching, setting, plain_action, deletion, update_setting, action, action_on, actions, actions_of, target, reference_of};
+ghost use Rattle.aq_base.specs.declared.constraint.Action.TheVariants.{NoAction};
 ghost use Rattle.aq_parse_tables.specs.Targets.{shown};
 
 use aq_base::{Action, Decl, List, Match, Reference, TextVal};
-use aq_grammar::{Read, column_list, is_word, public_name, refuse_partial_match, says, word};
+use aq_grammar::{
+    Read, column_list, is_word, public_name, refuse_partial_match, refuse_update_list, says, word,
+};
 use aq_lex::Lexed;
 use std::alloc::Global;
 
@@ -18,6 +21,7 @@ pub(crate) struct Untimed {
     columns: Option<List<TextVal>>,
     matching: Match,
     on_delete: Action,
+    set_columns: Option<List<TextVal>>,
     on_update: Action,
 }
 
@@ -31,6 +35,7 @@ impl Untimed {
             columns: self.columns,
             matching: self.matching,
             on_delete: self.on_delete,
+            set_columns: self.set_columns,
             on_update: self.on_update,
             timing,
         }
@@ -67,54 +72,121 @@ fn setting<'a>(tokens: &Lexed<'a>) -> Read<'a, Action>
     }
 }
 
-/// What is done with child rows.
-#[tactic(auto, unfolding(aq_grammar::specs::Tables::action))]
-fn action<'a>(tokens: &Lexed<'a>) -> Read<'a, Action>
-    ensures { Gives (λ x. x) result (reads action tokens.now) }
+/// An action that sets no column.
+#[tactic(auto, unfolding(aq_grammar::specs::Tables::plain_action))]
+fn plain_action<'a>(tokens: &Lexed<'a>) -> Read<'a, Action>
+    ensures { Gives (λ x. x) result (reads plain_action tokens.now) }
 {
     if is_word(tokens, b"no") {
         let ((), rest) = word(tokens, b"no")?;
         says(&rest, b"action", Action::NoAction)
     } else if is_word(tokens, b"restrict") {
         says(tokens, b"restrict", Action::Restrict)
-    } else if is_word(tokens, b"cascade") {
-        says(tokens, b"cascade", Action::Cascade)
     } else {
-        setting(tokens)
+        says(tokens, b"cascade", Action::Cascade)
     }
 }
 
-/// What is done on the other change, where it is given.
-fn action_on<'a>(tokens: &Lexed<'a>, change: &[u8]) -> Read<'a, Action>
-    ensures { Gives (λ x. x) result (reads (action_on change.now) tokens.now) }
+/// What is done with child rows when a row is deleted, and the list of the columns that are set.
+#[tactic(auto, unfolding(aq_grammar::specs::Tables::deletion))]
+fn deletion<'a>(alloc: Global, tokens: &Lexed<'a>) -> Read<'a, (Action, Option<List<TextVal>>)>
+    ensures { Gives (λ x. x) result (reads deletion tokens.now) }
+{
+    if !is_word(tokens, b"set") {
+        let (action, rest) = plain_action(tokens)?;
+        return Ok(((action, None), rest));
+    }
+    let (action, rest) = setting(tokens)?;
+    let (columns, rest) = column_list(alloc, &rest)?;
+    Ok(((action, columns), rest))
+}
+
+/// SET NULL or SET DEFAULT, behind which no list stands.
+#[tactic(auto, unfolding(aq_grammar::specs::Tables::update_setting, aq_grammar::specs::Steps::RefusesSo))]
+fn update_setting<'a>(alloc: Global, tokens: &Lexed<'a>) -> Read<'a, Action>
+    ensures { Gives (λ x. x) result (reads update_setting tokens.now) }
+{
+    let ((), rest) = word(tokens, b"set")?;
+    if is_word(&rest, b"null") {
+        let (action, rest) = says(&rest, b"null", Action::SetNull)?;
+        refuse_update_list(
+            alloc,
+            &rest,
+            "a column list with SET NULL is only supported for ON DELETE actions",
+        )?;
+        Ok((action, rest))
+    } else {
+        let (action, rest) = says(&rest, b"default", Action::SetDefault)?;
+        refuse_update_list(
+            alloc,
+            &rest,
+            "a column list with SET DEFAULT is only supported for ON DELETE actions",
+        )?;
+        Ok((action, rest))
+    }
+}
+
+/// What is done with child rows when a key is changed.
+#[tactic(auto, unfolding(aq_grammar::specs::Tables::action))]
+fn action<'a>(alloc: Global, tokens: &Lexed<'a>) -> Read<'a, Action>
+    ensures { Gives (λ x. x) result (reads action tokens.now) }
+{
+    if is_word(tokens, b"set") {
+        update_setting(alloc, tokens)
+    } else {
+        plain_action(tokens)
+    }
+}
+
+/// ON UPDATE behind ON DELETE, where it is given.
+fn on_update<'a>(alloc: Global, tokens: &Lexed<'a>) -> Read<'a, Action>
+    ensures { Gives (λ x. x) result (reads (action_on (codes "update") action NoAction) tokens.now) }
 {
     if !is_word(tokens, b"on") {
         return Ok((Action::NoAction, tokens.copied()));
     }
     let ((), rest) = word(tokens, b"on")?;
-    let ((), rest) = word(&rest, change)?;
-    action(&rest)
+    let ((), rest) = word(&rest, b"update")?;
+    action(alloc, &rest)
+}
+
+/// ON DELETE behind ON UPDATE, where it is given.
+fn on_delete<'a>(alloc: Global, tokens: &Lexed<'a>) -> Read<'a, (Action, Option<List<TextVal>>)>
+    ensures { Gives (λ x. x) result (reads (action_on (codes "delete") deletion (NoAction, None)) tokens.now) }
+{
+    if !is_word(tokens, b"on") {
+        return Ok(((Action::NoAction, None), tokens.copied()));
+    }
+    let ((), rest) = word(tokens, b"on")?;
+    let ((), rest) = word(&rest, b"delete")?;
+    deletion(alloc, &rest)
 }
 
 /// What is done on delete, and on update.
 #[tactic(auto, unfolding(aq_grammar::specs::Tables::actions))]
-fn actions<'a>(tokens: &Lexed<'a>) -> Read<'a, (Action, Action)>
-    ensures { Gives (λ x. x) result (reads actions tokens.now) }
+fn actions<'a>(
+    alloc: Global,
+    tokens: &Lexed<'a>,
+) -> Read<'a, ((Action, Option<List<TextVal>>), Action)>
+    ensures { Gives (λ x. actions_of x.0 x.1) result (reads actions tokens.now) }
 {
     if !is_word(tokens, b"on") {
-        return Ok(((Action::NoAction, Action::NoAction), tokens.copied()));
+        return Ok((
+            ((Action::NoAction, None), Action::NoAction),
+            tokens.copied(),
+        ));
     }
     let ((), rest) = word(tokens, b"on")?;
     if is_word(&rest, b"delete") {
         let ((), rest) = word(&rest, b"delete")?;
-        let (on_delete, rest) = action(&rest)?;
-        let (on_update, rest) = action_on(&rest, b"update")?;
-        Ok(((on_delete, on_update), rest))
+        let (deleted, rest) = deletion(alloc, &rest)?;
+        let (updated, rest) = on_update(alloc, &rest)?;
+        Ok(((deleted, updated), rest))
     } else {
         let ((), rest) = word(&rest, b"update")?;
-        let (on_update, rest) = action(&rest)?;
-        let (on_delete, rest) = action_on(&rest, b"delete")?;
-        Ok(((on_delete, on_update), rest))
+        let (updated, rest) = action(alloc, &rest)?;
+        let (deleted, rest) = on_delete(alloc, &rest)?;
+        Ok(((deleted, updated), rest))
     }
 }
 
@@ -127,13 +199,14 @@ pub(crate) fn target<'a>(alloc: Global, tokens: &Lexed<'a>) -> Read<'a, Untimed>
     let (table, rest) = public_name(alloc, &rest)?;
     let (columns, rest) = column_list(alloc, &rest)?;
     let (matching, rest) = matching(alloc, &rest)?;
-    let ((on_delete, on_update), rest) = actions(&rest)?;
+    let (((on_delete, set_columns), on_update), rest) = actions(alloc, &rest)?;
     Ok((
         Untimed {
             table,
             columns,
             matching,
             on_delete,
+            set_columns,
             on_update,
         },
         rest,

@@ -2,29 +2,15 @@
 #![tactic(auto, using(crate::proofs::Printing::put_all_append))]
 
 ghost use Rattle.std.specs.Prelude.{◌≡◌, ◌∷◌, ◌++◌, [], OnOk};
-ghost use Rattle.aq_texts.specs.Canon.{integer, constant, comparison, expression, printed, operand};
+ghost use Rattle.aq_texts.specs.Canon.{integer, constant, comparison, unary, infix_words, expression, printed, operand};
 ghost use Rattle.aq_texts.specs.Written.{Mark, Name};
 ghost use Rattle.aq_lex.specs.declared.token.Symbol.TheVariants.{Dot};
-ghost use Rattle.aq_print.specs.Infixes.{infix_tokens};
 ghost use Rattle.aq_print.specs.Printing.{put, put_all};
 
 use crate::lists::Prints;
 use crate::printer::Printer;
-use aq_base::{Boxed, Comparison, Expr, NoMemory, TextVal, Value};
+use aq_base::{BinaryOperator, Boxed, Comparison, Expr, NoMemory, TextVal, UnaryOperator, Value};
 use aq_lex::Symbol;
-
-/// An operator that stands between two operands.
-#[derive(Clone, Copy)]
-pub enum Infix {
-    Multiply,
-    Add,
-    Subtract,
-    Compare(Comparison),
-    IsDistinct,
-    IsNotDistinct,
-    And,
-    Or,
-}
 
 fn integer(printer: &mut Printer, n: i64) -> Result<(), NoMemory>
     ensures { OnOk result (printer.new ≡ put_all printer.old (integer n)) }
@@ -61,18 +47,19 @@ fn comparison(printer: &mut Printer, sign: Comparison) -> Result<(), NoMemory>
     }
 }
 
-fn infix_operator(printer: &mut Printer, operator: Infix) -> Result<(), NoMemory>
-    ensures { OnOk result (printer.new ≡ put_all printer.old (infix_tokens operator)) }
+/// The words of an operator between its operands.
+fn infix_words(printer: &mut Printer, operator: BinaryOperator) -> Result<(), NoMemory>
+    ensures { OnOk result (printer.new ≡ put_all printer.old (infix_words operator)) }
 {
     match operator {
-        Infix::Multiply => printer.mark(Symbol::Times),
-        Infix::Add => printer.mark(Symbol::Plus),
-        Infix::Subtract => printer.mark(Symbol::Minus),
-        Infix::Compare(sign) => comparison(printer, sign),
-        Infix::IsDistinct => printer.words(&["IS", "DISTINCT", "FROM"]),
-        Infix::IsNotDistinct => printer.words(&["IS", "NOT", "DISTINCT", "FROM"]),
-        Infix::And => printer.word("AND"),
-        Infix::Or => printer.word("OR"),
+        BinaryOperator::Multiply => printer.mark(Symbol::Times),
+        BinaryOperator::Add => printer.mark(Symbol::Plus),
+        BinaryOperator::Subtract => printer.mark(Symbol::Minus),
+        BinaryOperator::Compare(sign) => comparison(printer, sign),
+        BinaryOperator::IsDistinct => printer.words(&["IS", "DISTINCT", "FROM"]),
+        BinaryOperator::IsNotDistinct => printer.words(&["IS", "NOT", "DISTINCT", "FROM"]),
+        BinaryOperator::And => printer.word("AND"),
+        BinaryOperator::Or => printer.word("OR"),
     }
 }
 
@@ -87,18 +74,7 @@ fn is_atom(expr: &Expr) -> bool
         | Expr::Old(_)
         | Expr::New(_)
         | Expr::Operation => true,
-        Expr::Negate(_)
-        | Expr::Multiply(..)
-        | Expr::Add(..)
-        | Expr::Subtract(..)
-        | Expr::Compare { .. }
-        | Expr::IsNull(_)
-        | Expr::IsNotNull(_)
-        | Expr::IsDistinct(..)
-        | Expr::IsNotDistinct(..)
-        | Expr::Not(_)
-        | Expr::And(..)
-        | Expr::Or(..) => false,
+        Expr::Unary { .. } | Expr::Binary { .. } => false,
     }
 }
 
@@ -124,17 +100,47 @@ fn operand(printer: &mut Printer, boxed: &Boxed<Expr>) -> Result<(), NoMemory>
     printer.mark(Symbol::CloseParen)
 }
 
+/// An operator with its operand.
+#[cycle(expressions)]
+fn unary(
+    printer: &mut Printer,
+    operator: UnaryOperator,
+    boxed: &Boxed<Expr>,
+) -> Result<(), NoMemory>
+    ensures { OnOk result (printer.new ≡ put_all printer.old (unary operator (printed boxed.now)).tokens) }
+{
+    match operator {
+        UnaryOperator::Negate => {
+            printer.sign()?;
+            operand(printer, boxed)
+        }
+        UnaryOperator::Not => {
+            printer.word("NOT")?;
+            operand(printer, boxed)
+        }
+        UnaryOperator::IsNull => {
+            operand(printer, boxed)?;
+            printer.words(&["IS", "NULL"])
+        }
+        UnaryOperator::IsNotNull => {
+            operand(printer, boxed)?;
+            printer.words(&["IS", "NOT", "NULL"])
+        }
+    }
+}
+
+/// An operator between its operands.
 #[cycle(expressions)]
 fn between(
     printer: &mut Printer,
     left: &Boxed<Expr>,
-    operator: Infix,
+    operator: BinaryOperator,
     right: &Boxed<Expr>,
 ) -> Result<(), NoMemory>
-    ensures { OnOk result (printer.new ≡ put_all printer.old (operand (printed left.now) ++ (infix_tokens operator ++ operand (printed right.now)))) }
+    ensures { OnOk result (printer.new ≡ put_all printer.old (operand (printed left.now) ++ (infix_words operator ++ operand (printed right.now)))) }
 {
     operand(printer, left)?;
-    infix_operator(printer, operator)?;
+    infix_words(printer, operator)?;
     operand(printer, right)
 }
 
@@ -159,34 +165,12 @@ pub fn expression(printer: &mut Printer, expr: &Expr) -> Result<(), NoMemory>
             column_of(printer, column)
         }
         Expr::Operation => printer.word("TG_OP"),
-        Expr::Negate(a) => {
-            printer.sign()?;
-            operand(printer, a)
-        }
-        Expr::Multiply(a, b) => between(printer, a, Infix::Multiply, b),
-        Expr::Add(a, b) => between(printer, a, Infix::Add, b),
-        Expr::Subtract(a, b) => between(printer, a, Infix::Subtract, b),
-        Expr::Compare {
+        Expr::Unary { operator, operand } => unary(printer, *operator, operand),
+        Expr::Binary {
             left,
-            comparison,
+            operator,
             right,
-        } => between(printer, left, Infix::Compare(*comparison), right),
-        Expr::IsNull(a) => {
-            operand(printer, a)?;
-            printer.words(&["IS", "NULL"])
-        }
-        Expr::IsNotNull(a) => {
-            operand(printer, a)?;
-            printer.words(&["IS", "NOT", "NULL"])
-        }
-        Expr::IsDistinct(a, b) => between(printer, a, Infix::IsDistinct, b),
-        Expr::IsNotDistinct(a, b) => between(printer, a, Infix::IsNotDistinct, b),
-        Expr::Not(a) => {
-            printer.word("NOT")?;
-            operand(printer, a)
-        }
-        Expr::And(a, b) => between(printer, a, Infix::And, b),
-        Expr::Or(a, b) => between(printer, a, Infix::Or, b),
+        } => between(printer, left, *operator, right),
     }
 }
 

@@ -1,9 +1,9 @@
 //! Forms one after the other, with commas between them or none.
 #![tactic(auto, using(crate::proofs::Printing::put_all_append, crate::proofs::Printing::separated_cons))]
 
-ghost use Rattle.std.specs.Prelude.{◌≡◌, ◌∷◌, OnOk};
+ghost use Rattle.std.specs.Prelude.{◌≡◌, ◌∷◌, codes, OnOk};
 ghost use Rattle.std.specs.List.{flat_map};
-ghost use Rattle.aq_texts.specs.Written.{Mark, listed, columns};
+ghost use Rattle.aq_texts.specs.Written.{Mark, say, separated, listed, columns};
 ghost use Rattle.aq_texts.specs.Canon.{perhaps};
 ghost use Rattle.aq_print.specs.Printing.{put_all};
 ghost use Rattle.aq_lex.specs.declared.token.Symbol.TheVariants.{Comma};
@@ -70,6 +70,33 @@ pub fn listed<T: Prints>(printer: &mut Printer, forms: &[T]) -> Result<(), NoMem
     };
     first.print(printer)?;
     later_listed(printer, others)
+}
+
+fn next_alternative<T: Prints>(printer: &mut Printer, form: &T) -> Result<(), NoMemory>
+    ensures { OnOk result (printer.new ≡ put_all printer.old (say (codes "OR") ∷ T.tokens form.now)) }
+{
+    printer.word("OR")?;
+    form.print(printer)
+}
+
+fn later_alternatives<T: Prints>(printer: &mut Printer, forms: &[T]) -> Result<(), NoMemory>
+    ensures { OnOk result (printer.new ≡ put_all printer.old (flat_map (λ form. say (codes "OR") ∷ T.tokens form) forms.now)) }
+{
+    for form in forms {
+        next_alternative(printer, form)?;
+    }
+    Ok(())
+}
+
+/// Forms with OR between them.
+pub fn alternatives<T: Prints>(printer: &mut Printer, forms: &[T]) -> Result<(), NoMemory>
+    ensures { OnOk result (printer.new ≡ put_all printer.old (separated (say (codes "OR")) T.tokens forms.now)) }
+{
+    let Some((first, others)) = forms.split_first() else {
+        return Ok(());
+    };
+    first.print(printer)?;
+    later_alternatives(printer, others)
 }
 
 /// Names in parentheses.

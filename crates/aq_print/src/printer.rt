@@ -158,8 +158,15 @@ impl Printer {
     pub fn literal(&mut self, text: &TextVal) -> Result<(), NoMemory>
         ensures { OnOk result (self.new ≡ put self.old (Literal text.now)) }
     {
+        self.literal_of(text.bytes())
+    }
+
+    /// A text between single quotes, by its bytes.
+    pub fn literal_of(&mut self, bytes: &[u8]) -> Result<(), NoMemory>
+        ensures { OnOk result (self.new ≡ put self.old (Literal bytes.now)) }
+    {
         push_blank(&mut self.out, self.joins)?;
-        push_quoted(&mut self.out, b'\'', text.bytes())?;
+        push_quoted(&mut self.out, b'\'', bytes)?;
         self.joins = false;
         self.behind_minus = false;
         Ok(())

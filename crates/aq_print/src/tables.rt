@@ -85,6 +85,7 @@ fn reference(printer: &mut Printer, r: &Reference) -> Result<(), NoMemory>
     columns_if_any(printer, &r.columns)?;
     matching(printer, r.matching)?;
     action_on(printer, "DELETE", r.on_delete)?;
+    columns_if_any(printer, &r.set_columns)?;
     action_on(printer, "UPDATE", r.on_update)?;
     timing(printer, r.timing)
 }

@@ -33,6 +33,9 @@ fn session_of(line: &TraceLine) -> &TextVal
         TraceLine::Savepoint { session, .. } => session,
         TraceLine::Release { session, .. } => session,
         TraceLine::Back { session, .. } => session,
+        TraceLine::Block { session, .. } => session,
+        TraceLine::Unblock { session, .. } => session,
+        TraceLine::Caught { session, .. } => session,
         TraceLine::Wait { session, .. } => session,
         TraceLine::Victim { session, .. } => session,
         TraceLine::Missing { session, .. } => session,
@@ -220,6 +223,14 @@ fn push_fail(out: &mut Vec<u8>, code: &Code) -> Result<(), NoMemory>
     out.extend_from_slice(&code.0)
 }
 
+fn push_caught(out: &mut Vec<u8>, block: u64, code: &Code) -> Result<(), NoMemory>
+    ensures { OnOk result (out.new.items ≡ out.old.items ++ (codes "caught " ++ decimal block ++ codes " " ++ code.now.0)) }
+{
+    push_counted(out, b"caught", block)?;
+    out.push(b' ')?;
+    out.extend_from_slice(&code.0)
+}
+
 /// What the step did.
 fn push_words(out: &mut Vec<u8>, line: &TraceLine) -> Result<(), NoMemory>
     ensures { OnOk result (out.new.items ≡ out.old.items ++ trace_words line.now) }
@@ -249,6 +260,9 @@ fn push_words(out: &mut Vec<u8>, line: &TraceLine) -> Result<(), NoMemory>
         TraceLine::Savepoint { name, .. } => push_named(out, b"savepoint", name),
         TraceLine::Release { name, .. } => push_named(out, b"release", name),
         TraceLine::Back { name, .. } => push_named(out, b"back", name),
+        TraceLine::Block { block, .. } => push_counted(out, b"block", *block),
+        TraceLine::Unblock { block, .. } => push_counted(out, b"unblock", *block),
+        TraceLine::Caught { block, code, .. } => push_caught(out, *block, code),
         TraceLine::Wait { blockers, .. } => push_sessions(out, b"wait", blockers.as_slice()),
         TraceLine::Victim { cycle, .. } => push_sessions(out, b"victim", cycle.as_slice()),
         TraceLine::Missing { key, database, .. } => push_missing(out, key, *database),

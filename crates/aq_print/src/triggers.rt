@@ -7,9 +7,9 @@ ghost use Rattle.aq_texts.specs.Written.{say, separated};
 ghost use Rattle.aq_texts.specs.Canon.{perhaps, function, create_function, trigger_event, fires_on, transition, transition_table, referencing, for_each, when_part, executes, create_trigger, create_constraint_trigger};
 ghost use Rattle.aq_print.specs.Printing.{put, put_all};
 
-use crate::bodies::block;
+use crate::bodies::body;
 use crate::expressions::expression;
-use crate::lists::{Prints, listed, one_by_one};
+use crate::lists::{Prints, alternatives, listed, one_by_one};
 use crate::printer::Printer;
 use crate::tables::timing;
 use aq_base::{
@@ -34,53 +34,26 @@ pub fn create_function(printer: &mut Printer, s: &CreateFunction) -> Result<(), 
     function(printer, &s.name)?;
     printer.words(&["RETURNS", "trigger", "LANGUAGE", "plpgsql", "AS"])?;
     printer.mark(Symbol::DollarQuote)?;
-    printer.word("BEGIN")?;
-    block(printer, &s.body)?;
-    printer.word("END")?;
+    body(printer, &s.body)?;
     printer.mark(Symbol::DollarQuote)
 }
 
-fn trigger_event(printer: &mut Printer, event: &TriggerEvent) -> Result<(), NoMemory>
-    ensures { OnOk result (printer.new ≡ put_all printer.old (trigger_event event.now)) }
-{
-    match event {
-        TriggerEvent::Insert => printer.word("INSERT"),
-        TriggerEvent::Delete => printer.word("DELETE"),
-        TriggerEvent::Update { columns: None } => printer.word("UPDATE"),
-        TriggerEvent::Update {
-            columns: Some(names),
-        } => {
-            printer.words(&["UPDATE", "OF"])?;
-            listed(printer, names.as_slice())
+impl Prints for TriggerEvent {
+    ghost tokens = { trigger_event };
+
+    fn print(&self, printer: &mut Printer) -> Result<(), NoMemory> {
+        match self {
+            TriggerEvent::Insert => printer.word("INSERT"),
+            TriggerEvent::Delete => printer.word("DELETE"),
+            TriggerEvent::Update { columns: None } => printer.word("UPDATE"),
+            TriggerEvent::Update {
+                columns: Some(names),
+            } => {
+                printer.words(&["UPDATE", "OF"])?;
+                listed(printer, names.as_slice())
+            }
         }
     }
-}
-
-fn next_event(printer: &mut Printer, event: &TriggerEvent) -> Result<(), NoMemory>
-    ensures { OnOk result (printer.new ≡ put_all printer.old (say (codes "OR") ∷ trigger_event event.now)) }
-{
-    printer.word("OR")?;
-    trigger_event(printer, event)
-}
-
-fn later_events(printer: &mut Printer, events: &[TriggerEvent]) -> Result<(), NoMemory>
-    ensures { OnOk result (printer.new ≡ put_all printer.old (flat_map (λ event. say (codes "OR") ∷ trigger_event event) events.now)) }
-{
-    for event in events {
-        next_event(printer, event)?;
-    }
-    Ok(())
-}
-
-/// Events with OR between them.
-fn trigger_events(printer: &mut Printer, events: &[TriggerEvent]) -> Result<(), NoMemory>
-    ensures { OnOk result (printer.new ≡ put_all printer.old (separated (say (codes "OR")) trigger_event events.now)) }
-{
-    let Some((first, others)) = events.split_first() else {
-        return Ok(());
-    };
-    trigger_event(printer, first)?;
-    later_events(printer, others)
 }
 
 /// The name of a trigger, its events and its table.
@@ -94,7 +67,7 @@ fn fires_on(
 {
     printer.name(name)?;
     printer.word("AFTER")?;
-    trigger_events(printer, events.as_slice())?;
+    alternatives(printer, events.as_slice())?;
     printer.word("ON")?;
     printer.name(table)
 }

@@ -8,7 +8,7 @@ use Rattle.aq_base.specs.declared.modes.ConstraintMode.TheVariants.{Deferred, Im
 use Rattle.aq_base.specs.declared.statement.Isolation.TheVariants.{ReadCommitted, RepeatableRead}
 use Rattle.aq_base.specs.declared.trace.Ending.TheVariants.{Passed, Skipped, Acted, Ran}
 use Rattle.aq_base.specs.declared.trace.ModeOf.TheVariants.{All, Named}
-use Rattle.aq_base.specs.declared.trace.TraceLine.TheVariants.{Begin, Open, Close, Change, Dropped, Queue, Round, Fire, Done, Mode, Savepoint, Release, Back, Wait, Victim, Missing, Pair, Fail, Drain, Commit, Abort, Reply, End}
+use Rattle.aq_base.specs.declared.trace.TraceLine.TheVariants.{Begin, Open, Close, Change, Dropped, Queue, Round, Fire, Done, Mode, Savepoint, Release, Back, Block, Unblock, Caught, Wait, Victim, Missing, Pair, Fail, Drain, Commit, Abort, Reply, End}
 use Rattle.aq_base.specs.declared.reply.ReplyLine.TheVariants as replies
 use Rattle.aq_texts.specs.Replies.{reply_line}
 use Rattle.aq_texts.specs.Schedules.{schedule_line}
@@ -49,6 +49,11 @@ modes = refl
 savepoints : trace_line (Savepoint a (codes "s")) ++ trace_line (Release a (codes "s")) ++ trace_line (Back a (codes "S"))
     ≡ codes "trace a savepoint s\ntrace a release s\ntrace a back \"S\"\n"
 savepoints = refl
+
+blocks_of_bodies : trace_line (Block a 2) ++ trace_line (Caught a 2 (record { 0 = codes "23505" })) ++ trace_line (Unblock a 1)
+    ≡ codes "trace a block 2\ntrace a caught 2 23505\ntrace a unblock 1\n"
+unfolding digits
+blocks_of_bodies = refl
 
 waits : trace_line (Wait a (codes "b" ∷ codes "c" ∷ [])) ++ trace_line (Victim (codes "b") (codes "b" ∷ a ∷ [])) ≡ codes "trace a wait b c\ntrace b victim b a\n"
 waits = refl

@@ -5,6 +5,10 @@ use Rattle.aq_base.specs.declared.value.Value.{Value}
 use Rattle.aq_base.specs.declared.value.Value.TheVariants.{Null, Bool as Truth, Int, Text as Words}
 use Rattle.aq_base.specs.declared.expr.Comparison.{Comparison}
 use Rattle.aq_base.specs.declared.expr.Comparison.TheVariants as comparisons
+use Rattle.aq_base.specs.declared.expr.UnaryOperator.{UnaryOperator}
+use Rattle.aq_base.specs.declared.expr.UnaryOperator.TheVariants as prefixes
+use Rattle.aq_base.specs.declared.expr.BinaryOperator.{BinaryOperator}
+use Rattle.aq_base.specs.declared.expr.BinaryOperator.TheVariants as infixes
 use Rattle.aq_base.specs.declared.expr.Expr.{Expr, Expr-F, fold-Expr}
 use Rattle.aq_base.specs.declared.expr.Expr.TheOpen as exprs
 use Rattle.aq_base.specs.declared.data.Given.{Given}
@@ -28,6 +32,10 @@ use Rattle.aq_base.specs.declared.modes.SetConstraints.{SetConstraints}
 use Rattle.aq_base.specs.declared.body.BodyStatement.{BodyStatement, BodyStatement-F, fold-BodyStatement}
 use Rattle.aq_base.specs.declared.body.BodyStatement.TheOpen as bodies
 use Rattle.aq_base.specs.declared.body.ElseIf.{ElseIf, ElseIf-F, fold-ElseIf}
+use Rattle.aq_base.specs.declared.body.Handler.{Handler, Handler-F, fold-Handler}
+use Rattle.aq_base.specs.declared.body.Condition.{Condition}
+use Rattle.aq_base.specs.declared.body.Condition.TheVariants as caught
+use Rattle.aq_base.specs.declared.body.Body.{Body}
 use Rattle.aq_base.specs.declared.body.Returned.{Returned}
 use Rattle.aq_base.specs.declared.body.Returned.TheVariants as returns
 use Rattle.aq_base.specs.declared.catalog.Decl.{Decl}
@@ -113,6 +121,24 @@ operand o = if o.is_atom then o.tokens else in_parentheses o.tokens
 abbrev pub between : Operand → List Written → Operand → Operand
 between a words b = operation (operand a ++ (words ++ operand b))
 
+-- an operator with its operand
+abbrev pub unary : UnaryOperator → Operand → Operand
+unary prefixes.Negate a = operation (Sign ∷ operand a)
+unary prefixes.Not a = operation (say (codes "NOT") ∷ operand a)
+unary prefixes.IsNull a = operation (operand a ++ say (codes "IS") ∷ say (codes "NULL") ∷ [])
+unary prefixes.IsNotNull a = operation (operand a ++ say (codes "IS") ∷ say (codes "NOT") ∷ say (codes "NULL") ∷ [])
+
+-- the words of an operator between its operands
+abbrev pub infix_words : BinaryOperator → List Written
+infix_words infixes.Multiply = Mark Times ∷ []
+infix_words infixes.Add = Mark Plus ∷ []
+infix_words infixes.Subtract = Mark Minus ∷ []
+infix_words (infixes.Compare sign) = comparison sign ∷ []
+infix_words infixes.IsDistinct = say (codes "IS") ∷ say (codes "DISTINCT") ∷ say (codes "FROM") ∷ []
+infix_words infixes.IsNotDistinct = say (codes "IS") ∷ say (codes "NOT") ∷ say (codes "DISTINCT") ∷ say (codes "FROM") ∷ []
+infix_words infixes.And = say (codes "AND") ∷ []
+infix_words infixes.Or = say (codes "OR") ∷ []
+
 abbrev pub expression_step : Expr-F Operand → Operand
 expression_step (exprs.Constant value) = atom (constant value)
 expression_step (exprs.Column column) = atom (Name column ∷ [])
@@ -120,18 +146,8 @@ expression_step (exprs.Qualified table column) = atom (Name table ∷ Mark Dot �
 expression_step (exprs.Old column) = atom (say (codes "OLD") ∷ Mark Dot ∷ Name column ∷ [])
 expression_step (exprs.New column) = atom (say (codes "NEW") ∷ Mark Dot ∷ Name column ∷ [])
 expression_step exprs.Operation = atom (say (codes "TG_OP") ∷ [])
-expression_step (exprs.Negate a) = operation (Sign ∷ operand a)
-expression_step (exprs.Multiply a b) = between a (Mark Times ∷ []) b
-expression_step (exprs.Add a b) = between a (Mark Plus ∷ []) b
-expression_step (exprs.Subtract a b) = between a (Mark Minus ∷ []) b
-expression_step (exprs.Compare a sign b) = between a (comparison sign ∷ []) b
-expression_step (exprs.IsNull a) = operation (operand a ++ say (codes "IS") ∷ say (codes "NULL") ∷ [])
-expression_step (exprs.IsNotNull a) = operation (operand a ++ say (codes "IS") ∷ say (codes "NOT") ∷ say (codes "NULL") ∷ [])
-expression_step (exprs.IsDistinct a b) = between a (say (codes "IS") ∷ say (codes "DISTINCT") ∷ say (codes "FROM") ∷ []) b
-expression_step (exprs.IsNotDistinct a b) = between a (say (codes "IS") ∷ say (codes "NOT") ∷ say (codes "DISTINCT") ∷ say (codes "FROM") ∷ []) b
-expression_step (exprs.Not a) = operation (say (codes "NOT") ∷ operand a)
-expression_step (exprs.And a b) = between a (say (codes "AND") ∷ []) b
-expression_step (exprs.Or a b) = between a (say (codes "OR") ∷ []) b
+expression_step (exprs.Unary operator a) = unary operator a
+expression_step (exprs.Binary a operator b) = between a (infix_words operator) b
 
 abbrev pub printed : Expr → Operand
 printed e = fold-Expr Operand expression_step e
@@ -201,10 +217,33 @@ returned returns.Old = say (codes "OLD")
 abbrev pub ended : List (List Written) → List Written
 ended found = flat_map (λ tokens. tokens ++ Mark Semicolon ∷ []) found
 
-abbrev pub else_if_step : ElseIf-F (List Written) (List Written) → List Written
+abbrev pub condition : Condition → List Written
+condition caught.Others = say (codes "OTHERS") ∷ []
+condition (caught.SqlState code) = say (codes "SQLSTATE") ∷ Literal code.0 ∷ []
+condition caught.UniqueViolation = say (codes "unique_violation") ∷ []
+condition caught.ForeignKeyViolation = say (codes "foreign_key_violation") ∷ []
+condition caught.NotNullViolation = say (codes "not_null_violation") ∷ []
+condition caught.RaiseException = say (codes "raise_exception") ∷ []
+condition caught.SerializationFailure = say (codes "serialization_failure") ∷ []
+condition caught.DeadlockDetected = say (codes "deadlock_detected") ∷ []
+
+-- handlers behind the statements of a block
+abbrev pub exception : List (List Written) → List Written
+exception [] = []
+exception (first ∷ others) = say (codes "EXCEPTION") ∷ flat_map (λ tokens. tokens) (first ∷ others)
+
+-- a block with its statements and its handlers
+abbrev pub begin_end : List Written → List Written → List Written
+begin_end statements handlers = say (codes "BEGIN") ∷ (statements ++ (handlers ++ say (codes "END") ∷ []))
+
+abbrev pub handler_step : Handler-F (List Written) (List Written) (List Written) → List Written
+handler_step handler =
+    say (codes "WHEN") ∷ (separated (say (codes "OR")) condition handler.conditions ++ say (codes "THEN") ∷ ended handler.statements)
+
+abbrev pub else_if_step : ElseIf-F (List Written) (List Written) (List Written) → List Written
 else_if_step branch = say (codes "ELSIF") ∷ (expression branch.condition ++ say (codes "THEN") ∷ ended branch.then)
 
-abbrev pub body_step : BodyStatement-F (List Written) (List Written) → List Written
+abbrev pub body_step : BodyStatement-F (List Written) (List Written) (List Written) → List Written
 body_step (bodies.If condition first others last) =
     say (codes "IF")
     ∷ (expression condition ++ say (codes "THEN")
@@ -215,15 +254,22 @@ body_step (bodies.Insert s) = insert s
 body_step (bodies.Update s) = update s
 body_step (bodies.Delete s) = delete s
 body_step (bodies.SetConstraints s) = set_constraints s
+body_step (bodies.Block statements handlers) = begin_end (ended statements) (exception handlers)
 
 abbrev pub body_statement : BodyStatement → List Written
-body_statement s = fold-BodyStatement (List Written) (List Written) body_step else_if_step s
+body_statement s = fold-BodyStatement (List Written) (List Written) (List Written) body_step else_if_step handler_step s
 
 abbrev pub else_if : ElseIf → List Written
-else_if branch = fold-ElseIf (List Written) (List Written) body_step else_if_step branch
+else_if branch = fold-ElseIf (List Written) (List Written) (List Written) body_step else_if_step handler_step branch
+
+abbrev pub handler : Handler → List Written
+handler h = fold-Handler (List Written) (List Written) (List Written) body_step else_if_step handler_step h
 
 abbrev pub block : List BodyStatement → List Written
 block found = ended (map body_statement found)
+
+abbrev pub body : Body → List Written
+body b = begin_end (block b.statements) (exception (map handler b.handlers))
 
 -- ---- tables
 
@@ -258,7 +304,8 @@ timing decl =
 abbrev pub reference : Reference → List Written
 reference r =
     say (codes "REFERENCES") ∷ Name r.table
-    ∷ (perhaps columns r.columns ++ (matching r.matching ++ (action_on (codes "DELETE") r.on_delete ++ (action_on (codes "UPDATE") r.on_update ++ timing r.timing))))
+    ∷ (perhaps columns r.columns ++ (matching r.matching ++ (action_on (codes "DELETE") r.on_delete
+    ++ (perhaps columns r.set_columns ++ (action_on (codes "UPDATE") r.on_update ++ timing r.timing)))))
 
 abbrev pub column_constraint : ColumnConstraint → List Written
 column_constraint on_columns.NotNull = say (codes "NOT") ∷ say (codes "NULL") ∷ []
@@ -291,7 +338,7 @@ abbrev pub create_function : CreateFunction → List Written
 create_function s =
     say (codes "CREATE") ∷ say (codes "FUNCTION")
     ∷ (function s.name ++ say (codes "RETURNS") ∷ say (codes "trigger") ∷ say (codes "LANGUAGE") ∷ say (codes "plpgsql") ∷ say (codes "AS") ∷ Mark DollarQuote
-    ∷ say (codes "BEGIN") ∷ (block s.body ++ say (codes "END") ∷ Mark DollarQuote ∷ []))
+    ∷ (body s.body ++ Mark DollarQuote ∷ []))
 
 abbrev pub trigger_event : TriggerEvent → List Written
 trigger_event events.Insert = say (codes "INSERT") ∷ []

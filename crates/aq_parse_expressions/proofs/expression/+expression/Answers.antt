@@ -1,38 +1,39 @@
 use Rattle.std.proofs.Common.{rules, arith, ◌≡◌, ◌<◌, ◌≤◌, [], ◌∷◌, length, replicate, true, false, sym, ◌∙◌, codes, Err}
-use Rattle.aq_base.specs.declared.expr.Expr.TheVariants.{Multiply, And, Or}
+use Rattle.aq_base.specs.declared.expr.BinaryOperator.TheVariants.{Multiply, And, Or}
 use Rattle.aq_lex.specs.declared.token.Symbol.TheVariants.{OpenParen, Times, Plus, Minus}
 use Rattle.aq_grammar.specs.Terminals.{Keyword, Sign, begins}
 use Rattle.aq_grammar.specs.Rules.{Many}
 use Rattle.aq_grammar.specs.Forms.{word, sign}
 use Rattle.aq_grammar.specs.Nonterminals.{reads}
 use Rattle.aq_grammar.specs.Shorter.{token_is_shorter}
-use Rattle.aq_grammar.specs.Expressions.{with_summand, tested, signed, product, sum_sign, summand, sum, comparison_sign, comparison, negated, null_or_distinct, is_test, test, negation, conjunction, expression}
+use Rattle.aq_grammar.specs.Expressions.{with_right, with_operand, tested, signed, product, sum_sign, summand, sum, comparison_sign, comparison, negated, null_or_distinct, is_test, test, negation, conjunction, expression}
+use Rattle.aq_grammar.proofs.NoLonger.{no_longer}
 use Rattle.aq_grammar.proofs.Loops.{gives_fault, fails_as, fails_on}
-use Rattle.aq_parse_expressions.proofs.Levels.{level_begins, level_goes_on, level_fails, level_ends, behind_one, one_shorter, right_shorter, simple_goes_on, simple_fails, expression_is, sum_sign_shorter, no_longer, both_read, second_fails, negated_test}
+use Rattle.aq_parse_expressions.proofs.Levels.{level_begins, level_goes_on, level_fails, level_ends, behind_one, one_shorter, right_shorter, simple_goes_on, simple_fails, expression_is, sum_sign_shorter, both_read, second_fails, negated_test}
 use Rattle.aq_parse_expressions.proofs.expression.+expression.Goals as goal
 
 pub product-factors-init : goal.product-factors-init
 product-factors-init t c =
-    level_begins Multiply (Sign Times ∷ []) (signed c.args.scope) (behind_one Multiply (Sign Times) (signed c.args.scope) (signed c.args.scope)) c.args.tokens.now c.in_ok-left.rest c.in_ok-left.left c.in_ok-left.ensures
+    level_begins (with_right Multiply) (Sign Times ∷ []) (signed c.args.scope) (behind_one (with_right Multiply) (Sign Times) (signed c.args.scope) (signed c.args.scope)) c.args.tokens.now c.in_ok-left.rest c.in_ok-left.left c.in_ok-left.ensures
 
 pub product-signed-requires-in-factors : goal.product-signed-requires-in-factors
 product-signed-requires-in-factors t c =
     let begun : begins (Sign Times ∷ []) c.factors.rest ≡ true = search rules in
-    let less : length c.rest-behind.result < length c.factors.rest = one_shorter Multiply (Sign Times) (signed c.args.scope) (signed c.args.scope) c.factors.rest c.rest-behind.result begun c.rest-behind.ensures in
+    let less : length c.rest-behind.result < length c.factors.rest = one_shorter (with_right Multiply) (Sign Times) (signed c.args.scope) (signed c.args.scope) c.factors.rest c.rest-behind.result begun c.rest-behind.ensures in
     let most : length c.factors.rest ≤ length c.args.tokens.now = c.factors.invariant.no_more in
     (omega (arith, less, most, c.decreases), tt)
 
 pub product-factors-preserved : goal.product-factors-preserved
 product-factors-preserved t c =
     let begun : begins (Sign Times ∷ []) c.factors.rest ≡ true = search rules in
-    let is_next : c.in_ok-left-2.left ≡ Multiply c.factors.left c.in_ok-right.right = search rules in
-    simple_goes_on Multiply (Sign Times) (signed c.args.scope) (signed c.args.scope) c.args.tokens.now c.in_ok-left.rest c.factors.rest c.rest-behind.result c.in_ok-right.after
+    let is_next : c.in_ok-left-2.left ≡ with_right Multiply c.factors.left c.in_ok-right.right = search rules in
+    simple_goes_on (with_right Multiply) (Sign Times) (signed c.args.scope) (signed c.args.scope) c.args.tokens.now c.in_ok-left.rest c.factors.rest c.rest-behind.result c.in_ok-right.after
     c.in_ok-left.left c.factors.left c.in_ok-left-2.left c.in_ok-right.right c.factors.invariant begun c.rest-behind.ensures c.in_ok-right.ensures is_next
 
 pub product-factors-smaller : goal.product-factors-smaller
 product-factors-smaller t c =
     let begun : begins (Sign Times ∷ []) c.factors.rest ≡ true = search rules in
-    right_shorter Multiply (Sign Times) (signed c.args.scope) (signed c.args.scope) c.factors.rest c.rest-behind.result c.in_ok-right.after c.in_ok-right.right begun c.rest-behind.ensures c.in_ok-right.ensures
+    right_shorter (with_right Multiply) (Sign Times) (signed c.args.scope) (signed c.args.scope) c.factors.rest c.rest-behind.result c.in_ok-right.after c.in_ok-right.right begun c.rest-behind.ensures c.in_ok-right.ensures
 
 pub product-returns-in_err-right : goal.product-returns-in_err-right
 unfolding product
@@ -40,38 +41,38 @@ product-returns-in_err-right t c =
     let begun : begins (Sign Times ∷ []) c.factors.rest ≡ true = search rules in
     let is_fault : c.from_residual-in_err-right.result ≡ Err c.in_err-right.field-0.0 = search rules in
     gives_fault (λ x. x) c.from_residual-in_err-right.result c.in_err-right.field-0.0 _ is_fault
-    (simple_fails Multiply (Sign Times) (signed c.args.scope) (signed c.args.scope) c.in_err-right.field-0.0 c.args.tokens.now c.in_ok-left.rest c.factors.rest c.rest-behind.result
+    (simple_fails (with_right Multiply) (Sign Times) (signed c.args.scope) (signed c.args.scope) c.in_err-right.field-0.0 c.args.tokens.now c.in_ok-left.rest c.factors.rest c.rest-behind.result
     c.in_ok-left.left c.factors.left c.in_ok-left.ensures c.factors.invariant begun c.rest-behind.ensures c.in_err-right.ensures)
 
 pub product-returns : goal.product-returns
 unfolding product
 product-returns t c =
     let ended : begins (Sign Times ∷ []) c.factors.rest ≡ false = search rules in
-    level_ends Multiply (Sign Times ∷ []) (signed c.args.scope) (behind_one Multiply (Sign Times) (signed c.args.scope) (signed c.args.scope)) c.args.tokens.now c.in_ok-left.rest c.factors.rest
+    level_ends (with_right Multiply) (Sign Times ∷ []) (signed c.args.scope) (behind_one (with_right Multiply) (Sign Times) (signed c.args.scope) (signed c.args.scope)) c.args.tokens.now c.in_ok-left.rest c.factors.rest
     c.in_ok-left.left c.factors.left c.in_ok-left.ensures c.factors.invariant ended
 
 pub conjunction-negations-init : goal.conjunction-negations-init
 conjunction-negations-init t c =
-    level_begins And (Keyword (codes "and") ∷ []) (negation c.args.scope) (behind_one And (Keyword (codes "and")) (negation c.args.scope) (negation c.args.scope)) c.args.tokens.now c.in_ok-left.rest c.in_ok-left.left c.in_ok-left.ensures
+    level_begins (with_right And) (Keyword (codes "and") ∷ []) (negation c.args.scope) (behind_one (with_right And) (Keyword (codes "and")) (negation c.args.scope) (negation c.args.scope)) c.args.tokens.now c.in_ok-left.rest c.in_ok-left.left c.in_ok-left.ensures
 
 pub conjunction-negation-requires-in-negations : goal.conjunction-negation-requires-in-negations
 conjunction-negation-requires-in-negations t c =
     let begun : begins (Keyword (codes "and") ∷ []) c.negations.rest ≡ true = search rules in
-    let less : length c.rest-behind.result < length c.negations.rest = one_shorter And (Keyword (codes "and")) (negation c.args.scope) (negation c.args.scope) c.negations.rest c.rest-behind.result begun c.rest-behind.ensures in
+    let less : length c.rest-behind.result < length c.negations.rest = one_shorter (with_right And) (Keyword (codes "and")) (negation c.args.scope) (negation c.args.scope) c.negations.rest c.rest-behind.result begun c.rest-behind.ensures in
     let most : length c.negations.rest ≤ length c.args.tokens.now = c.negations.invariant.no_more in
     (omega (arith, less, most, c.decreases), tt)
 
 pub conjunction-negations-preserved : goal.conjunction-negations-preserved
 conjunction-negations-preserved t c =
     let begun : begins (Keyword (codes "and") ∷ []) c.negations.rest ≡ true = search rules in
-    let is_next : c.in_ok-left-2.left ≡ And c.negations.left c.in_ok-right.right = search rules in
-    simple_goes_on And (Keyword (codes "and")) (negation c.args.scope) (negation c.args.scope) c.args.tokens.now c.in_ok-left.rest c.negations.rest c.rest-behind.result c.in_ok-right.after
+    let is_next : c.in_ok-left-2.left ≡ with_right And c.negations.left c.in_ok-right.right = search rules in
+    simple_goes_on (with_right And) (Keyword (codes "and")) (negation c.args.scope) (negation c.args.scope) c.args.tokens.now c.in_ok-left.rest c.negations.rest c.rest-behind.result c.in_ok-right.after
     c.in_ok-left.left c.negations.left c.in_ok-left-2.left c.in_ok-right.right c.negations.invariant begun c.rest-behind.ensures c.in_ok-right.ensures is_next
 
 pub conjunction-negations-smaller : goal.conjunction-negations-smaller
 conjunction-negations-smaller t c =
     let begun : begins (Keyword (codes "and") ∷ []) c.negations.rest ≡ true = search rules in
-    right_shorter And (Keyword (codes "and")) (negation c.args.scope) (negation c.args.scope) c.negations.rest c.rest-behind.result c.in_ok-right.after c.in_ok-right.right begun c.rest-behind.ensures c.in_ok-right.ensures
+    right_shorter (with_right And) (Keyword (codes "and")) (negation c.args.scope) (negation c.args.scope) c.negations.rest c.rest-behind.result c.in_ok-right.after c.in_ok-right.right begun c.rest-behind.ensures c.in_ok-right.ensures
 
 pub conjunction-returns-in_err-right : goal.conjunction-returns-in_err-right
 unfolding conjunction
@@ -79,38 +80,38 @@ conjunction-returns-in_err-right t c =
     let begun : begins (Keyword (codes "and") ∷ []) c.negations.rest ≡ true = search rules in
     let is_fault : c.from_residual-in_err-right.result ≡ Err c.in_err-right.field-0.0 = search rules in
     gives_fault (λ x. x) c.from_residual-in_err-right.result c.in_err-right.field-0.0 _ is_fault
-    (simple_fails And (Keyword (codes "and")) (negation c.args.scope) (negation c.args.scope) c.in_err-right.field-0.0 c.args.tokens.now c.in_ok-left.rest c.negations.rest c.rest-behind.result
+    (simple_fails (with_right And) (Keyword (codes "and")) (negation c.args.scope) (negation c.args.scope) c.in_err-right.field-0.0 c.args.tokens.now c.in_ok-left.rest c.negations.rest c.rest-behind.result
     c.in_ok-left.left c.negations.left c.in_ok-left.ensures c.negations.invariant begun c.rest-behind.ensures c.in_err-right.ensures)
 
 pub conjunction-returns : goal.conjunction-returns
 unfolding conjunction
 conjunction-returns t c =
     let ended : begins (Keyword (codes "and") ∷ []) c.negations.rest ≡ false = search rules in
-    level_ends And (Keyword (codes "and") ∷ []) (negation c.args.scope) (behind_one And (Keyword (codes "and")) (negation c.args.scope) (negation c.args.scope)) c.args.tokens.now c.in_ok-left.rest c.negations.rest
+    level_ends (with_right And) (Keyword (codes "and") ∷ []) (negation c.args.scope) (behind_one (with_right And) (Keyword (codes "and")) (negation c.args.scope) (negation c.args.scope)) c.args.tokens.now c.in_ok-left.rest c.negations.rest
     c.in_ok-left.left c.negations.left c.in_ok-left.ensures c.negations.invariant ended
 
 pub expression-conjunctions-init : goal.expression-conjunctions-init
 expression-conjunctions-init t c =
-    level_begins Or (Keyword (codes "or") ∷ []) (conjunction c.args.scope) (behind_one Or (Keyword (codes "or")) (conjunction c.args.scope) (conjunction c.args.scope)) c.args.tokens.now c.in_ok-left.rest c.in_ok-left.left c.in_ok-left.ensures
+    level_begins (with_right Or) (Keyword (codes "or") ∷ []) (conjunction c.args.scope) (behind_one (with_right Or) (Keyword (codes "or")) (conjunction c.args.scope) (conjunction c.args.scope)) c.args.tokens.now c.in_ok-left.rest c.in_ok-left.left c.in_ok-left.ensures
 
 pub expression-conjunction-requires-in-conjunctions : goal.expression-conjunction-requires-in-conjunctions
 expression-conjunction-requires-in-conjunctions t c =
     let begun : begins (Keyword (codes "or") ∷ []) c.conjunctions.rest ≡ true = search rules in
-    let less : length c.rest-behind.result < length c.conjunctions.rest = one_shorter Or (Keyword (codes "or")) (conjunction c.args.scope) (conjunction c.args.scope) c.conjunctions.rest c.rest-behind.result begun c.rest-behind.ensures in
+    let less : length c.rest-behind.result < length c.conjunctions.rest = one_shorter (with_right Or) (Keyword (codes "or")) (conjunction c.args.scope) (conjunction c.args.scope) c.conjunctions.rest c.rest-behind.result begun c.rest-behind.ensures in
     let most : length c.conjunctions.rest ≤ length c.args.tokens.now = c.conjunctions.invariant.no_more in
     (omega (arith, less, most, c.decreases), tt)
 
 pub expression-conjunctions-preserved : goal.expression-conjunctions-preserved
 expression-conjunctions-preserved t c =
     let begun : begins (Keyword (codes "or") ∷ []) c.conjunctions.rest ≡ true = search rules in
-    let is_next : c.in_ok-left-2.left ≡ Or c.conjunctions.left c.in_ok-right.right = search rules in
-    simple_goes_on Or (Keyword (codes "or")) (conjunction c.args.scope) (conjunction c.args.scope) c.args.tokens.now c.in_ok-left.rest c.conjunctions.rest c.rest-behind.result c.in_ok-right.after
+    let is_next : c.in_ok-left-2.left ≡ with_right Or c.conjunctions.left c.in_ok-right.right = search rules in
+    simple_goes_on (with_right Or) (Keyword (codes "or")) (conjunction c.args.scope) (conjunction c.args.scope) c.args.tokens.now c.in_ok-left.rest c.conjunctions.rest c.rest-behind.result c.in_ok-right.after
     c.in_ok-left.left c.conjunctions.left c.in_ok-left-2.left c.in_ok-right.right c.conjunctions.invariant begun c.rest-behind.ensures c.in_ok-right.ensures is_next
 
 pub expression-conjunctions-smaller : goal.expression-conjunctions-smaller
 expression-conjunctions-smaller t c =
     let begun : begins (Keyword (codes "or") ∷ []) c.conjunctions.rest ≡ true = search rules in
-    right_shorter Or (Keyword (codes "or")) (conjunction c.args.scope) (conjunction c.args.scope) c.conjunctions.rest c.rest-behind.result c.in_ok-right.after c.in_ok-right.right begun c.rest-behind.ensures c.in_ok-right.ensures
+    right_shorter (with_right Or) (Keyword (codes "or")) (conjunction c.args.scope) (conjunction c.args.scope) c.conjunctions.rest c.rest-behind.result c.in_ok-right.after c.in_ok-right.right begun c.rest-behind.ensures c.in_ok-right.ensures
 
 pub expression-returns-in_err-right : goal.expression-returns-in_err-right
 unfolding expression
@@ -118,14 +119,14 @@ expression-returns-in_err-right t c =
     let begun : begins (Keyword (codes "or") ∷ []) c.conjunctions.rest ≡ true = search rules in
     let is_fault : c.from_residual-in_err-right.result ≡ Err c.in_err-right.field-0.0 = search rules in
     gives_fault (λ x. x) c.from_residual-in_err-right.result c.in_err-right.field-0.0 _ is_fault
-    (fails_as c.in_err-right.field-0.0 _ _ (sym (expression_is c.args.scope c.args.tokens.now)) (simple_fails Or (Keyword (codes "or")) (conjunction c.args.scope) (conjunction c.args.scope) c.in_err-right.field-0.0 c.args.tokens.now c.in_ok-left.rest c.conjunctions.rest c.rest-behind.result
+    (fails_as c.in_err-right.field-0.0 _ _ (sym (expression_is c.args.scope c.args.tokens.now)) (simple_fails (with_right Or) (Keyword (codes "or")) (conjunction c.args.scope) (conjunction c.args.scope) c.in_err-right.field-0.0 c.args.tokens.now c.in_ok-left.rest c.conjunctions.rest c.rest-behind.result
     c.in_ok-left.left c.conjunctions.left c.in_ok-left.ensures c.conjunctions.invariant begun c.rest-behind.ensures c.in_err-right.ensures))
 
 pub expression-returns : goal.expression-returns
 unfolding expression
 expression-returns t c =
     let ended : begins (Keyword (codes "or") ∷ []) c.conjunctions.rest ≡ false = search rules in
-    expression_is c.args.scope c.args.tokens.now ∙ level_ends Or (Keyword (codes "or") ∷ []) (conjunction c.args.scope) (behind_one Or (Keyword (codes "or")) (conjunction c.args.scope) (conjunction c.args.scope)) c.args.tokens.now c.in_ok-left.rest c.conjunctions.rest
+    expression_is c.args.scope c.args.tokens.now ∙ level_ends (with_right Or) (Keyword (codes "or") ∷ []) (conjunction c.args.scope) (behind_one (with_right Or) (Keyword (codes "or")) (conjunction c.args.scope) (conjunction c.args.scope)) c.args.tokens.now c.in_ok-left.rest c.conjunctions.rest
     c.in_ok-left.left c.conjunctions.left c.in_ok-left.ensures c.conjunctions.invariant ended
 
 pub expression-returns-in_err-left : goal.expression-returns-in_err-left
@@ -138,49 +139,49 @@ expression-returns-in_err-left t c =
 
 pub sum-summands-init : goal.sum-summands-init
 sum-summands-init t c =
-    level_begins with_summand (Sign Plus ∷ Sign Minus ∷ []) (product c.args.scope) (summand c.args.scope) c.args.tokens.now c.in_ok-left.rest c.in_ok-left.left c.in_ok-left.ensures
+    level_begins with_operand (Sign Plus ∷ Sign Minus ∷ []) (product c.args.scope) (summand c.args.scope) c.args.tokens.now c.in_ok-left.rest c.in_ok-left.left c.in_ok-left.ensures
 
 pub sum-product-requires-in-summands : goal.sum-product-requires-in-summands
 sum-product-requires-in-summands t c =
-    let less : length c.in_ok-subtracts.behind < length c.summands.rest =
-    sum_sign_shorter c.summands.rest c.in_ok-subtracts.behind c.in_ok-subtracts.subtracts c.in_ok-subtracts.ensures in
+    let less : length c.in_ok-operator.behind < length c.summands.rest =
+    sum_sign_shorter c.summands.rest c.in_ok-operator.behind c.in_ok-operator.operator c.in_ok-operator.ensures in
     let most : length c.summands.rest ≤ length c.args.tokens.now = c.summands.invariant.no_more in
     (omega (arith, less, most, c.decreases), tt)
 
 pub sum-summands-smaller : goal.sum-summands-smaller
 sum-summands-smaller t c =
-    let less : length c.in_ok-subtracts.behind < length c.summands.rest =
-    sum_sign_shorter c.summands.rest c.in_ok-subtracts.behind c.in_ok-subtracts.subtracts c.in_ok-subtracts.ensures in
-    let fewer : length c.in_ok-right.after ≤ length c.in_ok-subtracts.behind =
-    no_longer (product c.args.scope) c.in_ok-subtracts.behind c.in_ok-right.after c.in_ok-right.right c.in_ok-right.ensures in
+    let less : length c.in_ok-operator.behind < length c.summands.rest =
+    sum_sign_shorter c.summands.rest c.in_ok-operator.behind c.in_ok-operator.operator c.in_ok-operator.ensures in
+    let fewer : length c.in_ok-right.after ≤ length c.in_ok-operator.behind =
+    no_longer (product c.args.scope) c.in_ok-operator.behind c.in_ok-right.after c.in_ok-right.right c.in_ok-right.ensures in
     omega (arith, less, fewer)
 
 pub sum-summands-preserved : goal.sum-summands-preserved
 unfolding summand
 sum-summands-preserved t c =
     let begun : begins (Sign Plus ∷ Sign Minus ∷ []) c.summands.rest ≡ true = search rules in
-    let is_next : c.in_ok-left-2.left ≡ with_summand c.summands.left (c.in_ok-subtracts.subtracts, c.in_ok-right.right) = search rules in
-    let less : length c.in_ok-subtracts.behind < length c.summands.rest =
-    sum_sign_shorter c.summands.rest c.in_ok-subtracts.behind c.in_ok-subtracts.subtracts c.in_ok-subtracts.ensures in
-    let fewer : length c.in_ok-right.after ≤ length c.in_ok-subtracts.behind =
-    no_longer (product c.args.scope) c.in_ok-subtracts.behind c.in_ok-right.after c.in_ok-right.right c.in_ok-right.ensures in
+    let is_next : c.in_ok-left-2.left ≡ with_operand c.summands.left (c.in_ok-operator.operator, c.in_ok-right.right) = search rules in
+    let less : length c.in_ok-operator.behind < length c.summands.rest =
+    sum_sign_shorter c.summands.rest c.in_ok-operator.behind c.in_ok-operator.operator c.in_ok-operator.ensures in
+    let fewer : length c.in_ok-right.after ≤ length c.in_ok-operator.behind =
+    no_longer (product c.args.scope) c.in_ok-operator.behind c.in_ok-right.after c.in_ok-right.right c.in_ok-right.ensures in
     let shorter : length c.in_ok-right.after < length c.summands.rest = omega (arith, less, fewer) in
-    level_goes_on with_summand (Sign Plus ∷ Sign Minus ∷ []) (product c.args.scope) (summand c.args.scope)
+    level_goes_on with_operand (Sign Plus ∷ Sign Minus ∷ []) (product c.args.scope) (summand c.args.scope)
     c.args.tokens.now c.in_ok-left.rest c.summands.rest c.in_ok-right.after c.in_ok-left.left c.summands.left c.in_ok-left-2.left
-    (c.in_ok-subtracts.subtracts, c.in_ok-right.right) c.summands.invariant begun
-    (both_read (λ subtracts right. (subtracts, right)) sum_sign (product c.args.scope) c.summands.rest c.in_ok-subtracts.behind c.in_ok-right.after
-    c.in_ok-subtracts.subtracts c.in_ok-right.right c.in_ok-subtracts.ensures c.in_ok-right.ensures)
+    (c.in_ok-operator.operator, c.in_ok-right.right) c.summands.invariant begun
+    (both_read (λ operator right. (operator, right)) sum_sign (product c.args.scope) c.summands.rest c.in_ok-operator.behind c.in_ok-right.after
+    c.in_ok-operator.operator c.in_ok-right.right c.in_ok-operator.ensures c.in_ok-right.ensures)
     shorter is_next
 
-pub sum-returns-in_err-subtracts : goal.sum-returns-in_err-subtracts
+pub sum-returns-in_err-operator : goal.sum-returns-in_err-operator
 unfolding sum summand
-sum-returns-in_err-subtracts t c =
+sum-returns-in_err-operator t c =
     let begun : begins (Sign Plus ∷ Sign Minus ∷ []) c.summands.rest ≡ true = search rules in
-    let is_fault : c.from_residual-in_err-subtracts.result ≡ Err c.in_err-subtracts.field-0.0 = search rules in
-    gives_fault (λ x. x) c.from_residual-in_err-subtracts.result c.in_err-subtracts.field-0.0 _ is_fault
-    (level_fails with_summand (Sign Plus ∷ Sign Minus ∷ []) (product c.args.scope) (summand c.args.scope) c.in_err-subtracts.field-0.0
+    let is_fault : c.from_residual-in_err-operator.result ≡ Err c.in_err-operator.field-0.0 = search rules in
+    gives_fault (λ x. x) c.from_residual-in_err-operator.result c.in_err-operator.field-0.0 _ is_fault
+    (level_fails with_operand (Sign Plus ∷ Sign Minus ∷ []) (product c.args.scope) (summand c.args.scope) c.in_err-operator.field-0.0
     c.args.tokens.now c.in_ok-left.rest c.summands.rest c.in_ok-left.left c.summands.left c.in_ok-left.ensures c.summands.invariant begun
-    (fails_on c.in_err-subtracts.field-0.0 (reads sum_sign c.summands.rest) _ c.in_err-subtracts.ensures))
+    (fails_on c.in_err-operator.field-0.0 (reads sum_sign c.summands.rest) _ c.in_err-operator.ensures))
 
 pub sum-returns-in_err-right : goal.sum-returns-in_err-right
 unfolding sum summand
@@ -188,16 +189,16 @@ sum-returns-in_err-right t c =
     let begun : begins (Sign Plus ∷ Sign Minus ∷ []) c.summands.rest ≡ true = search rules in
     let is_fault : c.from_residual-in_err-right.result ≡ Err c.in_err-right.field-0.0 = search rules in
     gives_fault (λ x. x) c.from_residual-in_err-right.result c.in_err-right.field-0.0 _ is_fault
-    (level_fails with_summand (Sign Plus ∷ Sign Minus ∷ []) (product c.args.scope) (summand c.args.scope) c.in_err-right.field-0.0
+    (level_fails with_operand (Sign Plus ∷ Sign Minus ∷ []) (product c.args.scope) (summand c.args.scope) c.in_err-right.field-0.0
     c.args.tokens.now c.in_ok-left.rest c.summands.rest c.in_ok-left.left c.summands.left c.in_ok-left.ensures c.summands.invariant begun
-    (second_fails (λ subtracts right. (subtracts, right)) sum_sign (product c.args.scope) c.in_err-right.field-0.0 c.summands.rest c.in_ok-subtracts.behind
-    c.in_ok-subtracts.subtracts c.in_ok-subtracts.ensures c.in_err-right.ensures))
+    (second_fails (λ operator right. (operator, right)) sum_sign (product c.args.scope) c.in_err-right.field-0.0 c.summands.rest c.in_ok-operator.behind
+    c.in_ok-operator.operator c.in_ok-operator.ensures c.in_err-right.ensures))
 
 pub sum-returns : goal.sum-returns
 unfolding sum
 sum-returns t c =
     let ended : begins (Sign Plus ∷ Sign Minus ∷ []) c.summands.rest ≡ false = search rules in
-    level_ends with_summand (Sign Plus ∷ Sign Minus ∷ []) (product c.args.scope) (summand c.args.scope) c.args.tokens.now c.in_ok-left.rest c.summands.rest
+    level_ends with_operand (Sign Plus ∷ Sign Minus ∷ []) (product c.args.scope) (summand c.args.scope) c.args.tokens.now c.in_ok-left.rest c.summands.rest
     c.in_ok-left.left c.summands.left c.in_ok-left.ensures c.summands.invariant ended
 
 pub test-tests-init : goal.test-tests-init

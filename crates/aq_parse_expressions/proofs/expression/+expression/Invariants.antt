@@ -1,9 +1,9 @@
 use Rattle.std.proofs.Common.{◌+◌, ◌*◌, [], ◌∷◌, length, codes}
-use Rattle.aq_base.specs.declared.expr.Expr.TheVariants.{Multiply, And, Or}
+use Rattle.aq_base.specs.declared.expr.BinaryOperator.TheVariants.{Multiply, And, Or}
 use Rattle.aq_lex.specs.declared.token.Symbol.TheVariants.{Times, Plus, Minus}
 use Rattle.aq_grammar.specs.Terminals.{Keyword, Sign}
 use Rattle.aq_grammar.specs.Forms.{word, sign, ◌▸◌}
-use Rattle.aq_grammar.specs.Expressions.{with_summand, tested, signed, summand, negation, conjunction}
+use Rattle.aq_grammar.specs.Expressions.{with_right, with_operand, tested, signed, summand, negation, conjunction}
 use Rattle.aq_parse_expressions.proofs.Levels.{Goes, negated_test}
 use Rattle.aq_parse_expressions.proofs.expression.+expression.Given as goal
 
@@ -38,13 +38,13 @@ abbrev pub decreases-expression : goal.decreases-expression
 decreases-expression l = 10 * length l.tokens.now + 9
 
 abbrev pub invariant-product-factors : goal.invariant-product-factors
-invariant-product-factors l = Goes Multiply (Sign Times ∷ []) (sign Times ▸ signed l.scope) l.initial.left l.initial.rest l.left l.rest l.tokens
+invariant-product-factors l = Goes (with_right Multiply) (Sign Times ∷ []) (sign Times ▸ signed l.scope) l.initial.left l.initial.rest l.left l.rest l.tokens
 
 abbrev pub decreases-product-factors : goal.decreases-product-factors
 decreases-product-factors l = length l.rest
 
 abbrev pub invariant-sum-summands : goal.invariant-sum-summands
-invariant-sum-summands l = Goes with_summand (Sign Plus ∷ Sign Minus ∷ []) (summand l.scope) l.initial.left l.initial.rest l.left l.rest l.tokens
+invariant-sum-summands l = Goes with_operand (Sign Plus ∷ Sign Minus ∷ []) (summand l.scope) l.initial.left l.initial.rest l.left l.rest l.tokens
 
 abbrev pub decreases-sum-summands : goal.decreases-sum-summands
 decreases-sum-summands l = length l.rest
@@ -56,13 +56,13 @@ abbrev pub decreases-test-tests : goal.decreases-test-tests
 decreases-test-tests l = length l.rest
 
 abbrev pub invariant-conjunction-negations : goal.invariant-conjunction-negations
-invariant-conjunction-negations l = Goes And (Keyword (codes "and") ∷ []) (word (codes "and") ▸ negation l.scope) l.initial.left l.initial.rest l.left l.rest l.tokens
+invariant-conjunction-negations l = Goes (with_right And) (Keyword (codes "and") ∷ []) (word (codes "and") ▸ negation l.scope) l.initial.left l.initial.rest l.left l.rest l.tokens
 
 abbrev pub decreases-conjunction-negations : goal.decreases-conjunction-negations
 decreases-conjunction-negations l = length l.rest
 
 abbrev pub invariant-expression-conjunctions : goal.invariant-expression-conjunctions
-invariant-expression-conjunctions l = Goes Or (Keyword (codes "or") ∷ []) (word (codes "or") ▸ conjunction l.scope) l.initial.left l.initial.rest l.left l.rest l.tokens
+invariant-expression-conjunctions l = Goes (with_right Or) (Keyword (codes "or") ∷ []) (word (codes "or") ▸ conjunction l.scope) l.initial.left l.initial.rest l.left l.rest l.tokens
 
 abbrev pub decreases-expression-conjunctions : goal.decreases-expression-conjunctions
 decreases-expression-conjunctions l = length l.rest

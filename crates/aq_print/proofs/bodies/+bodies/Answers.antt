@@ -1,4 +1,4 @@
-use Rattle.std.proofs.Common.{◌≡◌, List, [], ◌∷◌, ◌++◌, ◌∙◌, ap, sym, append_assoc, take, take_all, codes, Option}
+use Rattle.std.proofs.Common.{rules, ◌≡◌, List, [], ◌∷◌, ◌++◌, ◌∙◌, ap, sym, append_assoc, take, take_all, map, codes, Option}
 use Rattle.std.specs.List.{flat_map}
 use Rattle.std.proofs.lemmas.List.Folds.{flat_map-map}
 use Rattle.aq_base.specs.declared.expr.Expr.{Expr}
@@ -7,8 +7,8 @@ use Rattle.aq_base.specs.declared.body.BodyStatement.TheVariants.{If}
 use Rattle.aq_base.specs.declared.body.ElseIf.{ElseIf}
 use Rattle.aq_lex.specs.declared.token.Symbol.TheVariants.{Semicolon}
 use Rattle.aq_texts.specs.Written.{Written, say, Mark, Literal}
-use Rattle.aq_texts.specs.Canon.{perhaps, expression, block, body_statement, else_if}
-use Rattle.aq_texts.proofs.Bodies.{raise_is, if_is, else_if_is}
+use Rattle.aq_texts.specs.Canon.{perhaps, expression, block, body_statement, else_if, handler, exception}
+use Rattle.aq_texts.proofs.Bodies.{raise_is, if_is, else_if_is, block_is, exception_of_some}
 use Rattle.aq_print.specs.Printing.{Printed, put_all}
 use Rattle.aq_print.proofs.Printing.{put_all_next, behind_token, behind_tokens, on_ok}
 use Rattle.aq_print.proofs.bodies.+bodies.Goals as goal
@@ -86,3 +86,26 @@ pub else_ifs-loop-branch-preserved : goal.else_ifs-loop-branch-preserved
 else_ifs-loop-branch-preserved t c =
     put_all_next c.args.printer.now c.loop-branch.printer c.else_if.new.printer else_if c.as_slice-branch-items.result.now
     c.loop-branch.branch-index c.branch-item.result c.loop-branch-test.true c.branch-item.is c.loop-branch.invariant c.in_ok-else_if.ensures
+
+pub each_handler-loop-h-preserved : goal.each_handler-loop-h-preserved
+each_handler-loop-h-preserved t c =
+    put_all_next c.args.printer.now c.loop-h.printer c.handler.new.printer handler c.as_slice-h-items.result.now
+    c.loop-h.h-index c.h-item.result c.loop-h-test.true c.h-item.is c.loop-h.invariant c.in_ok-handler.ensures
+
+pub exception-returns : goal.exception-returns
+exception-returns t c =
+    let some : c.args.handlers.now ≡ [] → ⊥ = search rules in
+    on_ok _ _ _ _ c.each_handler.ensures (
+    behind_token c.args.printer.now c.word.new.self (say (codes "EXCEPTION")) (flat_map handler c.args.handlers.now) c.in_ok-word.ensures
+    ∙ ap (λ (tokens : List Written). put_all c.args.printer.now tokens) (exception_of_some c.args.handlers.now some))
+
+pub body_statement-returns-in_ok-exception-in-Block : goal.body_statement-returns-in_ok-exception-in-Block
+body_statement-returns-in_ok-exception-in-Block t c =
+    let statements = c.in-Block.statements in
+    let caught : List Written = exception (map handler c.in-Block.handlers) in
+    on_ok _ _ _ _ c.word-in-Block-2.ensures (
+    behind_tokens c.block-in-Block.new.printer c.exception.new.printer caught (say (codes "END") ∷ []) c.in_ok-exception-in-Block.ensures
+    ∙ behind_tokens c.word-in-Block.new.self c.block-in-Block.new.printer (block statements) (caught ++ say (codes "END") ∷ []) c.in_ok-block-in-Block.ensures
+    ∙ behind_token c.args.printer.now c.word-in-Block.new.self (say (codes "BEGIN")) (block statements ++ (caught ++ say (codes "END") ∷ [])) c.in_ok-word-in-Block.ensures
+    ∙ ap (λ (tokens : List Written). put_all c.args.printer.now tokens) (sym (block_is statements c.in-Block.handlers))
+    ∙ ap (λ (s : BodyStatement). put_all c.args.printer.now (body_statement s)) (sym c.in-Block.is))

@@ -2,7 +2,7 @@ use Rattle.std.proofs.Common.{◌≡◌, [], ◌∷◌, ◌++◌, take}
 use Rattle.std.specs.List.{flat_map}
 use Rattle.aq_lex.specs.declared.token.Symbol.TheVariants.{Semicolon}
 use Rattle.aq_texts.specs.Written.{Mark}
-use Rattle.aq_texts.specs.Canon.{body_statement, else_if}
+use Rattle.aq_texts.specs.Canon.{body_statement, else_if, handler}
 use Rattle.aq_print.specs.Printing.{put_all}
 use Rattle.aq_print.proofs.bodies.+bodies.Given as goal
 
@@ -12,3 +12,6 @@ invariant-block-loop-statement l =
 
 abbrev pub invariant-else_ifs-loop-branch : goal.invariant-else_ifs-loop-branch
 invariant-else_ifs-loop-branch l = l.printer ≡ put_all l.fn.printer (flat_map else_if (take l.branch-index l.branch-items))
+
+abbrev pub invariant-each_handler-loop-h : goal.invariant-each_handler-loop-h
+invariant-each_handler-loop-h l = l.printer ≡ put_all l.fn.printer (flat_map handler (take l.h-index l.h-items))
