@@ -7,7 +7,7 @@ use Rattle.aq_base.specs.Names.{Text, same_text}
 use Rattle.aq_base.specs.declared.fault.SqlFault.{SqlFault}
 use Rattle.aq_base.specs.declared.data.Assignment.{Assignment}
 use Rattle.aq_base.specs.declared.data.Update.{Update}
-use Rattle.aq_first_base.specs.declared.catalog.Column.{Column}
+use Rattle.aq_base.specs.declared.catalog.Column.{Column}
 use Rattle.aq_setup.specs.Names.{target_faults, insert_columns}
 use Rattle.aq_setup.specs.Lengths.{update_lengths}
 use Rattle.aq_setup.specs.Scopes.{repeats_behind}

@@ -4,7 +4,7 @@ use Rattle.std.specs.List.{list_any}
 use Rattle.aq_base.specs.Names.{Text, same_text}
 use Rattle.aq_base.specs.declared.fault.SqlFault.{SqlFault}
 use Rattle.aq_base.specs.declared.data.Assignment.{Assignment}
-use Rattle.aq_first_base.specs.declared.catalog.Column.{Column}
+use Rattle.aq_base.specs.declared.catalog.Column.{Column}
 use Rattle.aq_setup.specs.Names.{target_faults}
 use Rattle.aq_refusals.specs.Faults.{column_twice, assigned_twice}
 

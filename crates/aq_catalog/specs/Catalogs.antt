@@ -8,13 +8,13 @@ use Rattle.aq_base.specs.Names.{Text, same_text}
 use Rattle.aq_base.specs.declared.script.Kind.{Kind}
 use Rattle.aq_base.specs.declared.catalog.Op.{Op}
 use Rattle.aq_base.specs.declared.catalog.Op.TheVariants as ops
-use Rattle.aq_first_base.specs.declared.catalog.Column.{Column}
-use Rattle.aq_first_base.specs.declared.catalog.Table.{Table}
-use Rattle.aq_first_base.specs.declared.catalog.UniqueKey.{UniqueKey}
-use Rattle.aq_first_base.specs.declared.catalog.ForeignKey.{ForeignKey}
+use Rattle.aq_base.specs.declared.catalog.Column.{Column}
+use Rattle.aq_base.specs.declared.catalog.Table.{Table}
+use Rattle.aq_base.specs.declared.catalog.UniqueKey.{UniqueKey}
+use Rattle.aq_base.specs.declared.catalog.ForeignKey.{ForeignKey}
 use Rattle.aq_base.specs.declared.catalog.Constraint.{Constraint}
 use Rattle.aq_base.specs.declared.catalog.Function.{Function}
-use Rattle.aq_first_base.specs.declared.catalog.Trigger.{Trigger}
+use Rattle.aq_base.specs.declared.catalog.Trigger.{Trigger}
 use Rattle.aq_base.specs.declared.catalog.NativeName.{NativeName}
 
 -- each list in creation order: a number is a place in it

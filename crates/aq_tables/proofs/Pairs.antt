@@ -2,7 +2,7 @@
 use Rattle.std.proofs.Common.{◌≡◌, ℕ, List, [], ◌∷◌, ◌&&◌, refl, ap, zip}
 use Rattle.std.specs.List.{list_all}
 use Rattle.aq_base.specs.Names.{Text}
-use Rattle.aq_first_base.specs.declared.catalog.Column.{Column}
+use Rattle.aq_base.specs.declared.catalog.Column.{Column}
 use Rattle.aq_setup.specs.References.{all_kinds_fit}
 use Rattle.aq_tables.specs.Pairs.{fit_at}
 

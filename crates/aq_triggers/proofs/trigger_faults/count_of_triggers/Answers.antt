@@ -2,7 +2,7 @@ use Rattle.std.proofs.Common.{◌≡◌, ℕ, ◌+◌, ◌<◌, ◌≤◌, Bool,
 use Rattle.std.proofs.lemmas.List.{length-take}
 use Rattle.std.proofs.lemmas.List.Sums.{length-filter, count_by-le-length}
 use mir.Val.{bool_byte}
-use Rattle.aq_first_base.specs.declared.catalog.Trigger.{Trigger}
+use Rattle.aq_base.specs.declared.catalog.Trigger.{Trigger}
 use Rattle.aq_setup.specs.Triggers.{is_of_statement}
 use Rattle.aq_triggers.proofs.trigger_faults.count_of_triggers.Goals as goal
 

@@ -1,7 +1,7 @@
 use Rattle.std.proofs.Common.{◌==◌, ◌&&◌, ℕ, List, Option, sym, ap, ◌∙◌}
 use Rattle.std.specs.List.{list_any}
 use Rattle.aq_base.specs.Names.{same_text}
-use Rattle.aq_first_base.specs.declared.catalog.Trigger.{Trigger}
+use Rattle.aq_base.specs.declared.catalog.Trigger.{Trigger}
 use Rattle.aq_setup.specs.Triggers.{triggers_taken}
 use Rattle.aq_catalog.proofs.FirstFound.{any_of_images}
 use Rattle.aq_triggers.proofs.trigger_faults.trigger_taken.Goals as goal
