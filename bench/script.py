@@ -6,6 +6,7 @@ nested      one expression of so many tokens: a number in parentheses
 open        one expression of so many parentheses that are never closed
 ifs         a function with so many IFs open
 bodies      a trigger whose function has so many statements, over 64 tables of 32 columns
+blocks      a trigger whose function has so many blocks, each with a statement and a handler with another
 functions   so many functions, and 64 triggers that name the last of them
 keys        so many unique keys of one table, each added by a statement that names it
 defaults    the same with names by default
@@ -69,6 +70,11 @@ def bodies(size):
     return "\\setup\n" + tables() + function("f", statements) + trigger("x", "f")
 
 
+def blocks(size):
+    block = "BEGIN INSERT INTO t%d (c0) VALUES (NEW.c0); EXCEPTION WHEN unique_violation OR SQLSTATE '22003' THEN DELETE FROM t%d WHERE c30 = OLD.c29; END; "
+    return "\\setup\n" + tables() + function("f", "".join(block % (n % 64, n % 64) for n in range(size))) + trigger("x", "f")
+
+
 def functions(size):
     made = "".join(function("f%d" % n, "") for n in range(size))
     named = "".join(trigger("x%d" % n, "f%d" % (size - 1)) for n in range(64))
@@ -98,6 +104,7 @@ SHAPES = {
     "open": opened,
     "ifs": ifs,
     "bodies": bodies,
+    "blocks": blocks,
     "functions": functions,
     "keys": keys,
     "defaults": defaults,

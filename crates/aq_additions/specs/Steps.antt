@@ -8,7 +8,7 @@ use Rattle.aq_base.specs.declared.catalog.ForeignKey.{ForeignKey}
 use Rattle.aq_base.specs.declared.catalog.Trigger.{Trigger}
 use Rattle.aq_base.specs.declared.catalog.Does.TheVariants.{Check, Parent}
 use Rattle.aq_catalog.specs.Catalogs.{Catalog, columns_at, number_of_table, number_of_column}
-use Rattle.aq_setup.specs.References.{parent_cols}
+use Rattle.aq_setup.specs.References.{parent_cols, set_numbers}
 use Rattle.aq_setup.specs.Tables.{Referring, without_nulls, reference_trigger, parent_trigger_name, child_trigger_name, action_con, is_full}
 
 -- what stood in the catalog stands there still, of the tables the first n
@@ -47,6 +47,7 @@ made_fk child f cat =
       on_delete = f.reference.on_delete;
       on_update = f.reference.on_update;
       con = length cat.constraints;
+      set_cols = set_numbers (columns_at cat child) f.cols f.reference.set_columns;
     }
 
 -- its triggers

@@ -7,6 +7,7 @@ mod declared;
 mod name_set;
 mod parents;
 mod referring;
+mod set_columns;
 mod steps;
 mod taken;
 mod twice;

@@ -14,6 +14,7 @@ ghost use Rattle.aq_additions.specs.Steps.{Extends, Follows, nulls_in, made_fk, 
 use crate::constraints::NamedConstraint;
 use crate::parents::parent_cols;
 use crate::referring::Referring;
+use crate::set_columns::set_numbers;
 use aq_base::{
     Action, ColNo, ConNo, Constraint, Copies, Decl, Does, Each, FkNo, ForeignKey, KeyNo, List,
     Match, Op, Reference, TabNo, Table, TableConstraint, TextVal, Trigger, UniqueKey,
@@ -332,6 +333,22 @@ fn parent_numbers(
     }
 }
 
+fn set_cols_of(
+    alloc: Global,
+    catalog: &Catalog,
+    child: usize,
+    f: &Referring<'_>,
+) -> Result<List<ColNo>, AllocError>
+    ensures { IfOk result (λ made. made ≡ references.set_numbers (catalogs.columns_at catalog.now child) f.now.cols f.now.reference.set_columns) }
+{
+    set_numbers(
+        alloc,
+        catalog.columns_at(child),
+        f.cols.as_slice(),
+        &f.reference.set_columns,
+    )
+}
+
 fn fk_of(
     alloc: Global,
     catalog: &Catalog,
@@ -351,6 +368,7 @@ fn fk_of(
         on_delete: r.on_delete,
         on_update: r.on_update,
         con: ConNo::new(in_16_bits(catalog.all_constraints().len())?),
+        set_cols: set_cols_of(alloc, catalog, child, f)?,
     })
 }
 

@@ -2,3 +2,4 @@ pub mod formers
 pub mod Values
 pub mod Maps
 pub mod Names
+pub mod Terms

@@ -6,7 +6,7 @@ use crate::text::TextVal;
 use std::alloc::AllocError;
 
 /// What kind of value a column keeps (PostgreSQL manual, chapter "Data Types").
-#[derive(Clone, Copy, PartialEq, Eq)]
+#[derive(Clone, Copy, Debug, PartialEq, Eq)]
 pub enum Kind {
     /// A whole number of 32 bits.
     Integer,

@@ -1,5 +1,5 @@
--- The faults of an IF, part by part.
-use Rattle.std.proofs.Common.{◌≡◌, refl, List, [], ◌++◌, sym, ap, ◌∙◌, subst, codes, Option, Some, None}
+-- The faults of an IF, of a branch, of a block and of a handler, part by part.
+use Rattle.std.proofs.Common.{◌≡◌, refl, List, [], ◌++◌, map, sym, ap, ◌∙◌, subst, Option, Some, None}
 use Rattle.std.specs.Prelude.{Result}
 use Rattle.std.specs.List.{flat_map}
 use Rattle.std.proofs.lemmas.List.Folds.{flat_map-map}
@@ -8,88 +8,86 @@ use Rattle.aq_base.specs.declared.expr.Expr.{Expr}
 use Rattle.aq_base.specs.declared.body.BodyStatement.{BodyStatement, fold-roll-BodyStatement}
 use Rattle.aq_base.specs.declared.body.BodyStatement.TheVariants as bodies
 use Rattle.aq_base.specs.declared.body.ElseIf.{ElseIf, fold_out-ElseIf}
-use Rattle.aq_setup.specs.Scopes.{Setting, no_row}
-use Rattle.aq_setup.specs.Binding.{condition_faults, body_faults, body_faults_step, else_if_faults_step}
+use Rattle.aq_base.specs.declared.body.Handler.{Handler, fold_out-Handler}
+use Rattle.aq_setup.specs.Scopes.{Setting}
+use Rattle.aq_setup.specs.Bodies.{if_faults, faults_in, else_if_faults, handler_faults, block_faults, body_faults_step, else_if_faults_step, handler_faults_step}
 use Rattle.aq_refusals.specs.declared.fault.CatFault.{CatFault}
 use Rattle.aq_refusals.specs.Answers.{IsFault, Tells}
-use Rattle.aq_binder.specs.BodyFaults.{faults_in, else_if_faults}
 use Rattle.aq_refusals.proofs.Telling.{first_stays}
 
-in_order : (a : List SqlFault) {b c d b_is c_is d_is : List SqlFault} → b ≡ b_is → c ≡ c_is → d ≡ d_is → a ++ (b ++ (c ++ d)) ≡ a ++ (b_is ++ (c_is ++ d_is))
-in_order a {b = b} {c = c} {d = d} {b_is = b_is} {c_is = c_is} {d_is = d_is} p q r =
-    ap (λ (x : List SqlFault). a ++ (x ++ (c ++ d))) p ∙ ap (λ (x : List SqlFault). a ++ (b_is ++ (x ++ d))) q ∙ ap (λ (x : List SqlFault). a ++ (b_is ++ (c_is ++ x))) r
-
-abbrev pub if_condition : Setting → Expr → List SqlFault
-if_condition setting condition = condition_faults (codes "IF") (no_row setting.changed) condition
+abbrev Faults : Type 0
+Faults = List SqlFault
 
 -- the faults behind ELSE
 abbrev pub last_faults : Setting → Option (List BodyStatement) → List SqlFault
 last_faults setting None = []
-last_faults setting (Some body) = body_faults setting body
+last_faults setting (Some statements) = flat_map (faults_in setting) statements
 
-abbrev faults_of_if : Setting → Expr → List BodyStatement → List ElseIf → Option (List BodyStatement) → List SqlFault
-faults_of_if setting condition first others last =
-    if_condition setting condition ++ (body_faults setting first ++ (flat_map (else_if_faults setting) others ++ last_faults setting last))
+abbrev pub choice_faults : Setting → Expr → List BodyStatement → List ElseIf → Option (List BodyStatement) → List SqlFault
+choice_faults setting condition first others last =
+    if_faults setting condition ++ (flat_map (faults_in setting) first ++ (flat_map (else_if_faults setting) others ++ last_faults setting last))
 
-if_faults : (setting : Setting) (condition : Expr) (first : List BodyStatement) (others : List ElseIf) (last : Option (List BodyStatement))
-    → faults_in setting (bodies.If condition first others last) ≡ faults_of_if setting condition first others last
-if_faults setting condition first others None =
+-- the faults of each statement, one behind the other
+joined : {X : Type 0} (f : X → Faults) (xs : List X) → flat_map (λ (faults : Faults). faults) (map f xs) ≡ flat_map f xs
+joined f xs = flat_map-map (λ (faults : Faults). faults) f xs
+
+in_order : (a : Faults) {b c d b_is c_is d_is : Faults} → b ≡ b_is → c ≡ c_is → d ≡ d_is → a ++ (b ++ (c ++ d)) ≡ a ++ (b_is ++ (c_is ++ d_is))
+in_order a {b = b} {c = c} {d = d} {b_is = b_is} {c_is = c_is} {d_is = d_is} p q r =
+    ap (λ (x : Faults). a ++ (x ++ (c ++ d))) p ∙ ap (λ (x : Faults). a ++ (b_is ++ (x ++ d))) q ∙ ap (λ (x : Faults). a ++ (b_is ++ (c_is ++ x))) r
+
+pub if_is : (setting : Setting) (condition : Expr) (first : List BodyStatement) (others : List ElseIf) (last : Option (List BodyStatement))
+    → faults_in setting (bodies.If condition first others last) ≡ choice_faults setting condition first others last
+if_is setting condition first others None =
     ap (faults_in setting) (sym (bodies.rolls-If condition first others None))
-    ∙ fold-roll-BodyStatement (List SqlFault) (List SqlFault) (body_faults_step setting) (else_if_faults_step setting) _
-    ∙ in_order (if_condition setting condition) (flat_map-map (λ (faults : List SqlFault). faults) (faults_in setting) first)
-    (flat_map-map (λ (faults : List SqlFault). faults) (else_if_faults setting) others) refl
-if_faults setting condition first others (Some found) =
+    ∙ fold-roll-BodyStatement Faults Faults Faults (body_faults_step setting) (else_if_faults_step setting) handler_faults_step _
+    ∙ in_order (if_faults setting condition) (joined (faults_in setting) first) (joined (else_if_faults setting) others) refl
+if_is setting condition first others (Some found) =
     ap (faults_in setting) (sym (bodies.rolls-If condition first others (Some found)))
-    ∙ fold-roll-BodyStatement (List SqlFault) (List SqlFault) (body_faults_step setting) (else_if_faults_step setting) _
-    ∙ in_order (if_condition setting condition) (flat_map-map (λ (faults : List SqlFault). faults) (faults_in setting) first)
-    (flat_map-map (λ (faults : List SqlFault). faults) (else_if_faults setting) others) (flat_map-map (λ (faults : List SqlFault). faults) (faults_in setting) found)
+    ∙ fold-roll-BodyStatement Faults Faults Faults (body_faults_step setting) (else_if_faults_step setting) handler_faults_step _
+    ∙ in_order (if_faults setting condition) (joined (faults_in setting) first) (joined (else_if_faults setting) others) (joined (faults_in setting) found)
 
-pub branch_faults : (setting : Setting) (branch : ElseIf) → else_if_faults setting branch ≡ if_condition setting branch.condition ++ body_faults setting branch.then
-branch_faults setting branch =
-    fold_out-ElseIf (List SqlFault) (List SqlFault) (body_faults_step setting) (else_if_faults_step setting) branch
-    ∙ ap (λ (x : List SqlFault). if_condition setting branch.condition ++ x) (flat_map-map (λ (faults : List SqlFault). faults) (faults_in setting) branch.then)
+pub branch_is : (setting : Setting) (branch : ElseIf)
+    → else_if_faults setting branch ≡ if_faults setting branch.condition ++ flat_map (faults_in setting) branch.then
+branch_is setting branch =
+    fold_out-ElseIf Faults Faults Faults (body_faults_step setting) (else_if_faults_step setting) handler_faults_step branch
+    ∙ ap (λ (x : Faults). if_faults setting branch.condition ++ x) (joined (faults_in setting) branch.then)
 
-pub if_condition_told : (setting : Setting) (condition : Expr) (first : List BodyStatement) (others : List ElseIf) (last : Option (List BodyStatement)) (e : CatFault)
-    → IsFault (if_condition setting condition) e → IsFault (faults_in setting (bodies.If condition first others last)) e
-if_condition_told setting condition first others last e told = rw (if_faults setting condition first others last) (first_stays _ _ e told)
+pub handler_is : (setting : Setting) (handler : Handler) → handler_faults setting handler ≡ flat_map (faults_in setting) handler.statements
+handler_is setting handler =
+    fold_out-Handler Faults Faults Faults (body_faults_step setting) (else_if_faults_step setting) handler_faults_step handler
+    ∙ joined (faults_in setting) handler.statements
 
-pub if_then_told : (setting : Setting) (condition : Expr) (first : List BodyStatement) (others : List ElseIf) (last : Option (List BodyStatement)) (e : CatFault)
-    → if_condition setting condition ≡ [] → IsFault (body_faults setting first) e → IsFault (faults_in setting (bodies.If condition first others last)) e
-if_then_told setting condition first others last e none told =
-    rw (if_faults setting condition first others last) (rw none (first_stays _ _ e told))
+pub block_is : (setting : Setting) (statements : List BodyStatement) (handlers : List Handler)
+    → faults_in setting (bodies.Block statements handlers) ≡ block_faults setting statements handlers
+block_is setting statements handlers =
+    ap (faults_in setting) (sym (bodies.rolls-Block statements handlers))
+    ∙ fold-roll-BodyStatement Faults Faults Faults (body_faults_step setting) (else_if_faults_step setting) handler_faults_step _
+    ∙ ap (λ (x : Faults). x ++ flat_map (λ (faults : Faults). faults) (map (handler_faults setting) handlers)) (joined (faults_in setting) statements)
+    ∙ ap (λ (x : Faults). flat_map (faults_in setting) statements ++ x) (joined (handler_faults setting) handlers)
 
-pub if_others_told : (setting : Setting) (condition : Expr) (first : List BodyStatement) (others : List ElseIf) (last : Option (List BodyStatement)) (e : CatFault)
-    → if_condition setting condition ≡ [] → body_faults setting first ≡ [] → IsFault (flat_map (else_if_faults setting) others) e
-    → IsFault (faults_in setting (bodies.If condition first others last)) e
-if_others_told setting condition first others last e none none_first told =
-    rw (if_faults setting condition first others last) (rw none (rw none_first (first_stays _ _ e told)))
+-- ---- the first fault of all, part by part
 
-pub if_last_told : {T : Type 0} (setting : Setting) (s : BodyStatement) (condition : Expr) (first : List BodyStatement) (others : List ElseIf) (last : Option (List BodyStatement))
-    (result : Result T CatFault) → s ≡ bodies.If condition first others last
-    → if_condition setting condition ≡ [] → body_faults setting first ≡ [] → flat_map (else_if_faults setting) others ≡ []
-    → Tells (last_faults setting last) result → Tells (faults_in setting s) result
-if_last_told setting s condition first others last result is none none_first none_others told =
-    subst (λ (faults : List SqlFault). Tells faults result)
-    (sym (ap (faults_in setting) is ∙ if_faults setting condition first others last
-    ∙ ap (λ (x : List SqlFault). x ++ (body_faults setting first ++ (flat_map (else_if_faults setting) others ++ last_faults setting last))) none
-    ∙ ap (λ (x : List SqlFault). x ++ (flat_map (else_if_faults setting) others ++ last_faults setting last)) none_first
-    ∙ ap (λ (x : List SqlFault). x ++ last_faults setting last) none_others)) told
+pub first_told : (all a rest : Faults) (e : CatFault) → all ≡ a ++ rest → IsFault a e → IsFault all e
+first_told all a rest e is told = rw is (first_stays a rest e told)
 
-pub if_none_told : (setting : Setting) (s : BodyStatement) (condition : Expr) (first : List BodyStatement) (others : List ElseIf) (last : Option (List BodyStatement))
-    → s ≡ bodies.If condition first others last → if_condition setting condition ≡ [] → body_faults setting first ≡ []
-    → flat_map (else_if_faults setting) others ≡ [] → last ≡ None → faults_in setting s ≡ []
-if_none_told setting s condition first others last is none none_first none_others none_last =
-    ap (faults_in setting) is ∙ if_faults setting condition first others last
-    ∙ ap (λ (x : List SqlFault). x ++ (body_faults setting first ++ (flat_map (else_if_faults setting) others ++ last_faults setting last))) none
-    ∙ ap (λ (x : List SqlFault). x ++ (flat_map (else_if_faults setting) others ++ last_faults setting last)) none_first
-    ∙ ap (λ (x : List SqlFault). x ++ last_faults setting last) none_others
-    ∙ ap (last_faults setting) none_last
+pub second_told : (all a b rest : Faults) (e : CatFault) → all ≡ a ++ (b ++ rest) → a ≡ [] → IsFault b e → IsFault all e
+second_told all a b rest e is none told = rw is (rw none (first_stays b rest e told))
 
-pub branch_condition_told : (setting : Setting) (branch : ElseIf) (e : CatFault) → IsFault (if_condition setting branch.condition) e → IsFault (else_if_faults setting branch) e
-branch_condition_told setting branch e told = rw (branch_faults setting branch) (first_stays _ _ e told)
+pub third_told : (all a b c rest : Faults) (e : CatFault) → all ≡ a ++ (b ++ (c ++ rest)) → a ≡ [] → b ≡ [] → IsFault c e → IsFault all e
+third_told all a b c rest e is none none_behind told = rw is (rw none (rw none_behind (first_stays c rest e told)))
 
-pub branch_then_told : {T : Type 0} (setting : Setting) (branch : ElseIf) (result : Result T CatFault)
-    → if_condition setting branch.condition ≡ [] → Tells (body_faults setting branch.then) result → Tells (else_if_faults setting branch) result
-branch_then_told setting branch result none told =
-    subst (λ (faults : List SqlFault). Tells faults result)
-    (sym (branch_faults setting branch ∙ ap (λ (x : List SqlFault). x ++ body_faults setting branch.then) none)) told
+pub rest_told : {T : Type 0} (all a rest : Faults) (result : Result T CatFault) → all ≡ a ++ rest → a ≡ [] → Tells rest result → Tells all result
+rest_told all a rest result is none told =
+    subst (λ (faults : Faults). Tells faults result) (sym (is ∙ ap (λ (x : Faults). x ++ rest) none)) told
+
+alone : (all a b c rest : Faults) → all ≡ a ++ (b ++ (c ++ rest)) → a ≡ [] → b ≡ [] → c ≡ [] → all ≡ rest
+alone all a b c rest is none none_second none_third =
+    is ∙ ap (λ (x : Faults). x ++ (b ++ (c ++ rest))) none ∙ ap (λ (x : Faults). x ++ (c ++ rest)) none_second ∙ ap (λ (x : Faults). x ++ rest) none_third
+
+pub last_told : {T : Type 0} (all a b c rest : Faults) (result : Result T CatFault)
+    → all ≡ a ++ (b ++ (c ++ rest)) → a ≡ [] → b ≡ [] → c ≡ [] → Tells rest result → Tells all result
+last_told all a b c rest result is none none_second none_third told =
+    subst (λ (faults : Faults). Tells faults result) (sym (alone all a b c rest is none none_second none_third)) told
+
+pub none_told : (all a b c rest : Faults) → all ≡ a ++ (b ++ (c ++ rest)) → a ≡ [] → b ≡ [] → c ≡ [] → rest ≡ [] → all ≡ []
+none_told all a b c rest is none none_second none_third none_left = alone all a b c rest is none none_second none_third ∙ none_left

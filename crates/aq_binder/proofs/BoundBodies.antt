@@ -10,19 +10,20 @@ use Rattle.aq_base.specs.declared.bound_data.BoundInsert.{BoundInsert}
 use Rattle.aq_base.specs.declared.bound_body.BoundBodyStatement.{BoundBodyStatement}
 use Rattle.aq_base.specs.declared.bound_body.BoundBodyStatement.TheVariants as bound_bodies
 use Rattle.aq_base.specs.declared.bound_body.BoundElseIf.{BoundElseIf}
+use Rattle.aq_base.specs.declared.bound_body.BoundHandler.{BoundHandler}
 use Rattle.aq_setup.specs.Scopes.{Setting, no_row}
-use Rattle.aq_setup.specs.Binding.{bound_expression, body_bound_step, else_if_bound_step, bound_body_statement, bound_body}
-use Rattle.aq_binder.specs.Bodies.{bound_else_if}
+use Rattle.aq_setup.specs.Binding.{bound_expression}
+use Rattle.aq_setup.specs.Bodies.{body_bound_step, else_if_bound_step, handler_bound_step, bound_body_statement, bound_else_if}
 
 pub if_bound : (setting : Setting) (condition : Expr) (first : List BodyStatement) (others : List ElseIf) (last : Option (List BodyStatement))
     → bound_body_statement setting (bodies.If condition first others last)
-    ≡ bound_bodies.If (bound_expression (no_row setting.changed) condition) (bound_body setting first) (map (bound_else_if setting) others) (option_map (bound_body setting) last)
+    ≡ bound_bodies.If (bound_expression (no_row setting.changed) condition) (map (bound_body_statement setting) first) (map (bound_else_if setting) others) (option_map (map (bound_body_statement setting)) last)
 if_bound setting condition first others None =
     ap (bound_body_statement setting) (sym (bodies.rolls-If condition first others None))
-    ∙ fold-roll-BodyStatement BoundBodyStatement BoundElseIf (body_bound_step setting) (else_if_bound_step setting) _
+    ∙ fold-roll-BodyStatement BoundBodyStatement BoundElseIf BoundHandler (body_bound_step setting) (else_if_bound_step setting) handler_bound_step _
 if_bound setting condition first others (Some found) =
     ap (bound_body_statement setting) (sym (bodies.rolls-If condition first others (Some found)))
-    ∙ fold-roll-BodyStatement BoundBodyStatement BoundElseIf (body_bound_step setting) (else_if_bound_step setting) _
+    ∙ fold-roll-BodyStatement BoundBodyStatement BoundElseIf BoundHandler (body_bound_step setting) (else_if_bound_step setting) handler_bound_step _
 
 abbrev insert_of : ℕ → Option (List ℕ) → BoundSource → BoundInsert
 insert_of table columns source = record { table = table; columns = columns; source = source }
@@ -39,10 +40,10 @@ if_of condition first others last = bound_bodies.If condition first others last
 -- an IF whose parts are bound
 pub same_if : (setting : Setting) (s : BodyStatement) (condition : Expr) (first : List BodyStatement) (others : List ElseIf) (last : Option (List BodyStatement))
     (a : BoundExpr) (b : List BoundBodyStatement) (d : List BoundElseIf) (e : Option (List BoundBodyStatement))
-    → s ≡ bodies.If condition first others last → a ≡ bound_expression (no_row setting.changed) condition → b ≡ bound_body setting first
-    → d ≡ map (bound_else_if setting) others → e ≡ option_map (bound_body setting) last → bound_bodies.If a b d e ≡ bound_body_statement setting s
+    → s ≡ bodies.If condition first others last → a ≡ bound_expression (no_row setting.changed) condition → b ≡ map (bound_body_statement setting) first
+    → d ≡ map (bound_else_if setting) others → e ≡ option_map (map (bound_body_statement setting)) last → bound_bodies.If a b d e ≡ bound_body_statement setting s
 same_if setting s condition first others last a b d e is first_is then_is others_are last_is =
     ap (λ x. if_of x b d e) first_is ∙ ap (λ x. if_of (bound_expression (no_row setting.changed) condition) x d e) then_is
-    ∙ ap (λ x. if_of (bound_expression (no_row setting.changed) condition) (bound_body setting first) x e) others_are
-    ∙ ap (λ x. if_of (bound_expression (no_row setting.changed) condition) (bound_body setting first) (map (bound_else_if setting) others) x) last_is
+    ∙ ap (λ x. if_of (bound_expression (no_row setting.changed) condition) (map (bound_body_statement setting) first) x e) others_are
+    ∙ ap (λ x. if_of (bound_expression (no_row setting.changed) condition) (map (bound_body_statement setting) first) (map (bound_else_if setting) others) x) last_is
     ∙ sym (if_bound setting condition first others last) ∙ ap (bound_body_statement setting) (sym is)

@@ -4,14 +4,12 @@ ghost use Rattle.std.specs.Prelude.{◌≡◌, IfOk, map, option_map};
 ghost use Rattle.aq_catalog.specs.Catalogs as catalogs;
 ghost use Rattle.aq_setup.specs.Binding as binding;
 ghost use Rattle.aq_base.specs.declared.bound_data.BoundSource.TheVariants.{Query};
-ghost use Rattle.aq_binder.specs.Bodies.{bound_else_if as else_if_is};
 
 use crate::scopes::{Scope, Setting, is_text, no_row, query_scope, table_scope};
 use aq_base::{
-    Assignment, BodyStatement, BoundAssignment, BoundBodyStatement, BoundColumns, BoundDelete,
-    BoundElseIf, BoundExpr, BoundFrom, BoundGiven, BoundInsert, BoundSelect, BoundSource,
-    BoundUpdate, Boxed, ColNo, Column, Columns, Copies, Delete, ElseIf, Expr, Given, Insert, List,
-    Select, Source, TabNo, TextVal, Update,
+    Assignment, BoundAssignment, BoundColumns, BoundDelete, BoundExpr, BoundFrom, BoundGiven,
+    BoundInsert, BoundSelect, BoundSource, BoundUpdate, Boxed, ColNo, Column, Columns, Copies,
+    Delete, Expr, Given, Insert, List, Select, Source, TabNo, TextVal, Update,
 };
 use aq_catalog::{Catalog, in_16_bits, number_of_column, number_of_table, numbers_of_columns};
 use std::alloc::{AllocError, Global};
@@ -58,47 +56,19 @@ pub(crate) fn bound_expression(
         Expr::Old(column) => Ok(BoundExpr::Old(bound_column(scope.changed, column)?)),
         Expr::New(column) => Ok(BoundExpr::New(bound_column(scope.changed, column)?)),
         Expr::Operation => Ok(BoundExpr::Operation),
-        Expr::Negate(operand) => Ok(BoundExpr::Negate(bound_operand(alloc, scope, operand)?)),
-        Expr::Multiply(left, right) => Ok(BoundExpr::Multiply(
-            bound_operand(alloc, scope, left)?,
-            bound_operand(alloc, scope, right)?,
-        )),
-        Expr::Add(left, right) => Ok(BoundExpr::Add(
-            bound_operand(alloc, scope, left)?,
-            bound_operand(alloc, scope, right)?,
-        )),
-        Expr::Subtract(left, right) => Ok(BoundExpr::Subtract(
-            bound_operand(alloc, scope, left)?,
-            bound_operand(alloc, scope, right)?,
-        )),
-        Expr::Compare {
+        Expr::Unary { operator, operand } => Ok(BoundExpr::Unary {
+            operator: *operator,
+            operand: bound_operand(alloc, scope, operand)?,
+        }),
+        Expr::Binary {
             left,
-            comparison,
+            operator,
             right,
-        } => Ok(BoundExpr::Compare {
+        } => Ok(BoundExpr::Binary {
             left: bound_operand(alloc, scope, left)?,
-            comparison: *comparison,
+            operator: *operator,
             right: bound_operand(alloc, scope, right)?,
         }),
-        Expr::IsNull(operand) => Ok(BoundExpr::IsNull(bound_operand(alloc, scope, operand)?)),
-        Expr::IsNotNull(operand) => Ok(BoundExpr::IsNotNull(bound_operand(alloc, scope, operand)?)),
-        Expr::IsDistinct(left, right) => Ok(BoundExpr::IsDistinct(
-            bound_operand(alloc, scope, left)?,
-            bound_operand(alloc, scope, right)?,
-        )),
-        Expr::IsNotDistinct(left, right) => Ok(BoundExpr::IsNotDistinct(
-            bound_operand(alloc, scope, left)?,
-            bound_operand(alloc, scope, right)?,
-        )),
-        Expr::Not(operand) => Ok(BoundExpr::Not(bound_operand(alloc, scope, operand)?)),
-        Expr::And(left, right) => Ok(BoundExpr::And(
-            bound_operand(alloc, scope, left)?,
-            bound_operand(alloc, scope, right)?,
-        )),
-        Expr::Or(left, right) => Ok(BoundExpr::Or(
-            bound_operand(alloc, scope, left)?,
-            bound_operand(alloc, scope, right)?,
-        )),
     }
 }
 
@@ -337,87 +307,4 @@ pub(crate) fn bound_select(
         condition: bound_condition(alloc, &table_scope(setting, &s.table), &s.condition)?,
         lock: s.lock,
     })
-}
-
-#[cycle(bound_bodies)]
-fn bound_statement(
-    alloc: Global,
-    setting: &Setting<'_>,
-    s: &BodyStatement,
-) -> Result<BoundBodyStatement, AllocError>
-    ensures { IfOk result (λ made. made ≡ binding.bound_body_statement setting.now s.now) }
-{
-    match s {
-        BodyStatement::If {
-            condition,
-            then,
-            else_ifs,
-            otherwise,
-        } => Ok(BoundBodyStatement::If {
-            condition: bound_expression(alloc, &no_row(setting.changed), condition)?,
-            then: bound_body(alloc, setting, then)?,
-            else_ifs: bound_else_ifs(alloc, setting, else_ifs)?,
-            otherwise: match otherwise {
-                None => None,
-                Some(block) => Some(bound_body(alloc, setting, block)?),
-            },
-        }),
-        BodyStatement::Raise(text) => Ok(BoundBodyStatement::Raise(text.copy()?)),
-        BodyStatement::Return(returned) => Ok(BoundBodyStatement::Return(*returned)),
-        BodyStatement::Insert(insert) => Ok(BoundBodyStatement::Insert(bound_insert(
-            alloc, setting, insert,
-        )?)),
-        BodyStatement::Update(update) => Ok(BoundBodyStatement::Update(bound_update(
-            alloc, setting, update,
-        )?)),
-        BodyStatement::Delete(delete) => Ok(BoundBodyStatement::Delete(bound_delete(
-            alloc, setting, delete,
-        )?)),
-        BodyStatement::SetConstraints(set) => Ok(BoundBodyStatement::SetConstraints(set.copy()?)),
-    }
-}
-
-#[cycle(bound_bodies)]
-fn bound_else_if(
-    alloc: Global,
-    setting: &Setting<'_>,
-    else_if: &ElseIf,
-) -> Result<BoundElseIf, AllocError>
-    ensures { IfOk result (λ made. made ≡ else_if_is setting.now else_if.now) }
-{
-    Ok(BoundElseIf {
-        condition: bound_expression(alloc, &no_row(setting.changed), &else_if.condition)?,
-        then: bound_body(alloc, setting, &else_if.then)?,
-    })
-}
-
-#[cycle(bound_bodies)]
-fn bound_else_ifs(
-    alloc: Global,
-    setting: &Setting<'_>,
-    else_ifs: &List<ElseIf>,
-) -> Result<List<BoundElseIf>, AllocError>
-    ensures { IfOk result (λ made. made ≡ map (else_if_is setting.now) else_ifs.now) }
-{
-    let mut made = List::new(alloc);
-    for else_if in else_ifs.as_slice() {
-        made.push(bound_else_if(alloc, setting, else_if)?)?;
-    }
-    Ok(made)
-}
-
-/// The statements of a function, for the trigger that names it.
-#[cycle(bound_bodies)]
-pub fn bound_body(
-    alloc: Global,
-    setting: &Setting<'_>,
-    body: &List<BodyStatement>,
-) -> Result<List<BoundBodyStatement>, AllocError>
-    ensures { IfOk result (λ made. made ≡ binding.bound_body setting.now body.now) }
-{
-    let mut made = List::new(alloc);
-    for statement in body.as_slice() {
-        made.push(bound_statement(alloc, setting, statement)?)?;
-    }
-    Ok(made)
 }

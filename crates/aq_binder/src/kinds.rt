@@ -1,7 +1,7 @@
 //! The kinds of expressions and the faults of kinds, from left to right, operands before their operator
 //! (PostgreSQL manual, chapter "Type Conversion").
 
-ghost use Rattle.std.specs.Prelude.{◌≡◌, ◌&&◌, ◌++◌, Some, codes};
+ghost use Rattle.std.specs.Prelude.{◌≡◌, ◌++◌, Some, codes};
 ghost use Rattle.aq_base.specs.declared.script.Kind.TheVariants.{Bigint, Boolean};
 ghost use Rattle.aq_catalog.specs.Catalogs as catalogs;
 ghost use Rattle.aq_setup.specs.Kinds as kinds;
@@ -11,8 +11,8 @@ ghost use Rattle.aq_binder.specs.Targets.{targets_of};
 
 use crate::scopes::{Scope, Setting, no_row, qualified_cols, query_scope, table_scope};
 use aq_base::{
-    Assignment, Column, Comparison, Delete, Expr, Given, Insert, Kind, List, Same, Select, Source,
-    TextVal, Update, Value,
+    Assignment, BinaryOperator, Column, Comparison, Delete, Expr, Given, Insert, Kind, List, Same,
+    Select, Source, TextVal, UnaryOperator, Update, Value,
 };
 use aq_refusals::{CatFault, no_boolean, no_negation, no_operator, wrong_value};
 use std::alloc::Global;
@@ -75,7 +75,7 @@ fn arithmetic(
     a: Option<Kind>,
     b: Option<Kind>,
 ) -> Result<Option<Kind>, CatFault>
-    ensures { Gives (kinds.operator_faults (λ x y. kinds.is_number x && kinds.is_number y) sign.now (kinds.operand_kinds a b)) (Some Bigint) result }
+    ensures { Gives (kinds.number_faults sign.now a b) (Some Bigint) result }
 {
     match operand_kinds(a, b) {
         Some((left, right)) if !(is_number(left) && is_number(right)) => {
@@ -91,7 +91,7 @@ fn compared(
     a: Option<Kind>,
     b: Option<Kind>,
 ) -> Result<Option<Kind>, CatFault>
-    ensures { Gives (kinds.operator_faults kinds.same_kind sign.now (kinds.operand_kinds a b)) (Some Boolean) result }
+    ensures { Gives (kinds.comparison_faults sign.now a b) (Some Boolean) result }
 {
     match operand_kinds(a, b) {
         Some((left, right)) if !same_kind(left, right) => {
@@ -125,7 +125,7 @@ fn negation(alloc: Global, a: Option<Kind>) -> Result<Option<Kind>, CatFault>
 
 /// The argument of WHERE, AND, OR, NOT, WHEN or IF is boolean.
 fn argument(alloc: Global, word: &str, a: Option<Kind>) -> Result<(), CatFault>
-    ensures { Tells (kinds.argument_faults word.now (kinds.of_kind a)) result }
+    ensures { Tells (kinds.argument_faults word.now a) result }
 {
     match a {
         Some(kind) if !matches!(kind, Kind::Boolean) => Err(no_boolean(alloc, word, kind)),
@@ -135,7 +135,7 @@ fn argument(alloc: Global, word: &str, a: Option<Kind>) -> Result<(), CatFault>
 
 /// The operand of NOT.
 fn denial(alloc: Global, a: Option<Kind>) -> Result<Option<Kind>, CatFault>
-    ensures { Gives (kinds.argument_faults (codes "NOT") (kinds.of_kind a)) (Some Boolean) result }
+    ensures { Gives (kinds.argument_faults (codes "NOT") a) (Some Boolean) result }
 {
     argument(alloc, "NOT", a)?;
     Ok(Some(Kind::Boolean))
@@ -148,11 +148,46 @@ fn joined(
     a: Option<Kind>,
     b: Option<Kind>,
 ) -> Result<Option<Kind>, CatFault>
-    ensures { Gives (kinds.argument_faults word.now (kinds.of_kind a) ++ kinds.argument_faults word.now (kinds.of_kind b)) (Some Boolean) result }
+    ensures { Gives (kinds.truth_faults word.now a b) (Some Boolean) result }
 {
     argument(alloc, word, a)?;
     argument(alloc, word, b)?;
     Ok(Some(Kind::Boolean))
+}
+
+/// The kind of what an operator gives, from that of its operand.
+fn of_unary(
+    alloc: Global,
+    operator: UnaryOperator,
+    a: Option<Kind>,
+) -> Result<Option<Kind>, CatFault>
+    ensures { Gives (kinds.unary_faults operator a) (Some (kinds.unary_kind operator)) result }
+{
+    match operator {
+        UnaryOperator::Negate => negation(alloc, a),
+        UnaryOperator::Not => denial(alloc, a),
+        UnaryOperator::IsNull | UnaryOperator::IsNotNull => Ok(Some(Kind::Boolean)),
+    }
+}
+
+/// The kind of what an operator gives, from those of its operands.
+fn of_binary(
+    alloc: Global,
+    a: Option<Kind>,
+    operator: BinaryOperator,
+    b: Option<Kind>,
+) -> Result<Option<Kind>, CatFault>
+    ensures { Gives (kinds.binary_faults operator a b) (Some (kinds.binary_kind operator)) result }
+{
+    match operator {
+        BinaryOperator::Multiply => arithmetic(alloc, "*", a, b),
+        BinaryOperator::Add => arithmetic(alloc, "+", a, b),
+        BinaryOperator::Subtract => arithmetic(alloc, "-", a, b),
+        BinaryOperator::Compare(comparison) => compared(alloc, comparison_sign(comparison), a, b),
+        BinaryOperator::IsDistinct | BinaryOperator::IsNotDistinct => compared(alloc, "=", a, b),
+        BinaryOperator::And => joined(alloc, "AND", a, b),
+        BinaryOperator::Or => joined(alloc, "OR", a, b),
+    }
 }
 
 /// The kind of an expression, none for that of a NULL literal.
@@ -165,50 +200,18 @@ pub(crate) fn kinded(alloc: Global, scope: &Scope<'_>, e: &Expr) -> Result<Optio
         Expr::Qualified { table, column } => Ok(column_kind(qualified_cols(scope, table), column)),
         Expr::Old(column) | Expr::New(column) => Ok(column_kind(scope.changed, column)),
         Expr::Operation => Ok(Some(Kind::Text)),
-        Expr::Negate(operand) => negation(alloc, kinded(alloc, scope, operand.get())?),
-        Expr::Multiply(left, right) => {
-            let left = kinded(alloc, scope, left.get())?;
-            let right = kinded(alloc, scope, right.get())?;
-            arithmetic(alloc, "*", left, right)
+        Expr::Unary { operator, operand } => {
+            let a = kinded(alloc, scope, operand.get())?;
+            of_unary(alloc, *operator, a)
         }
-        Expr::Add(left, right) => {
-            let left = kinded(alloc, scope, left.get())?;
-            let right = kinded(alloc, scope, right.get())?;
-            arithmetic(alloc, "+", left, right)
-        }
-        Expr::Subtract(left, right) => {
-            let left = kinded(alloc, scope, left.get())?;
-            let right = kinded(alloc, scope, right.get())?;
-            arithmetic(alloc, "-", left, right)
-        }
-        Expr::Compare {
+        Expr::Binary {
             left,
-            comparison,
+            operator,
             right,
         } => {
-            let left = kinded(alloc, scope, left.get())?;
-            let right = kinded(alloc, scope, right.get())?;
-            compared(alloc, comparison_sign(*comparison), left, right)
-        }
-        Expr::IsNull(operand) | Expr::IsNotNull(operand) => {
-            kinded(alloc, scope, operand.get())?;
-            Ok(Some(Kind::Boolean))
-        }
-        Expr::IsDistinct(left, right) | Expr::IsNotDistinct(left, right) => {
-            let left = kinded(alloc, scope, left.get())?;
-            let right = kinded(alloc, scope, right.get())?;
-            compared(alloc, "=", left, right)
-        }
-        Expr::Not(operand) => denial(alloc, kinded(alloc, scope, operand.get())?),
-        Expr::And(left, right) => {
-            let left = kinded(alloc, scope, left.get())?;
-            let right = kinded(alloc, scope, right.get())?;
-            joined(alloc, "AND", left, right)
-        }
-        Expr::Or(left, right) => {
-            let left = kinded(alloc, scope, left.get())?;
-            let right = kinded(alloc, scope, right.get())?;
-            joined(alloc, "OR", left, right)
+            let a = kinded(alloc, scope, left.get())?;
+            let b = kinded(alloc, scope, right.get())?;
+            of_binary(alloc, a, *operator, b)
         }
     }
 }

@@ -3,14 +3,18 @@
 #![tactic(auto, using(aq_refusals::proofs::Telling::first_stays, aq_refusals::proofs::Telling::memory_ran_out, aq_refusals::proofs::Telling::fault_is_told, aq_refusals::proofs::Loops::fault_at, aq_refusals::proofs::Loops::mapped_fault_at))]
 
 mod binding;
+mod bodies;
 mod kinds;
 mod lengths;
 mod names;
+mod refused_bodies;
 mod scopes;
 mod statements;
 
-pub use binding::{bound_body, bound_condition, bound_table};
+pub use binding::{bound_condition, bound_table};
+pub use bodies::bound_body;
 pub use kinds::{constant_kind, same_kind};
-pub use names::{columns_known, table_faults};
+pub use names::{columns_known, is_in, table_faults};
+pub use refused_bodies::body_faults;
 pub use scopes::{Scope, Setting, in_session, no_row};
-pub use statements::{Bind, body_faults, condition_faults};
+pub use statements::{Bind, condition_faults};

@@ -21,7 +21,7 @@ use aq_refusals::{CatFault, column_twice, no_column, no_relation, no_target};
 use std::alloc::Global;
 
 /// Whether a text is in a list.
-fn is_in(names: &[TextVal], name: &TextVal) -> bool
+pub fn is_in(names: &[TextVal], name: &TextVal) -> bool
     ensures { result ≡ list_any (same_text name.now) names.now }
 {
     names.iter().any(|other| name.same(other))
@@ -56,23 +56,10 @@ pub(crate) fn expression_names(alloc: Global, scope: &Scope<'_>, e: &Expr) -> Re
         Expr::Column(column) => known(alloc, scope.cols, column),
         Expr::Qualified { table, column } => known(alloc, qualified_cols(scope, table), column),
         Expr::Old(column) | Expr::New(column) => known(alloc, scope.changed, column),
-        Expr::Negate(a) | Expr::IsNull(a) | Expr::IsNotNull(a) | Expr::Not(a) => {
-            expression_names(alloc, scope, a.get())
-        }
-        Expr::Multiply(a, b)
-        | Expr::Add(a, b)
-        | Expr::Subtract(a, b)
-        | Expr::Compare {
-            left: a,
-            right: b,
-            ..
-        }
-        | Expr::IsDistinct(a, b)
-        | Expr::IsNotDistinct(a, b)
-        | Expr::And(a, b)
-        | Expr::Or(a, b) => {
-            expression_names(alloc, scope, a.get())?;
-            expression_names(alloc, scope, b.get())
+        Expr::Unary { operand, .. } => expression_names(alloc, scope, operand.get()),
+        Expr::Binary { left, right, .. } => {
+            expression_names(alloc, scope, left.get())?;
+            expression_names(alloc, scope, right.get())
         }
     }
 }

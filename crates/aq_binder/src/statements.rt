@@ -1,23 +1,21 @@
 //! The faults of a statement, and what it says once its names are numbers. All of its names come before its lengths, and these
 //! before its kinds (PostgreSQL source, analyze.c).
 
-ghost use Rattle.std.specs.Prelude.{◌≡◌, IfOk, [], ◌∷◌, map, codes, if◌then◌else◌};
+ghost use Rattle.std.specs.Prelude.{◌≡◌, IfOk, [], ◌∷◌, map, if◌then◌else◌};
 ghost use Rattle.std.specs.List.{flat_map, list_any};
 ghost use Rattle.aq_refusals.specs.Faults as faults;
 ghost use Rattle.aq_catalog.specs.Catalogs as catalogs;
-ghost use Rattle.aq_setup.specs.Scopes as scopes;
 ghost use Rattle.aq_setup.specs.Binding as binding;
 ghost use Rattle.aq_refusals.specs.Answers.{Tells, IsAnswer};
-ghost use Rattle.aq_binder.specs.BodyFaults as bodies;
 
 use crate::binding::{bound_delete, bound_insert, bound_select, bound_update};
 use crate::kinds::{boolean_kinds, delete_kinds, insert_kinds, select_kinds, update_kinds};
 use crate::lengths::{insert_lengths, update_lengths};
 use crate::names::{delete_names, expression_names, insert_names, select_names, update_names};
-use crate::scopes::{Scope, Setting, in_session, no_row};
+use crate::scopes::{Scope, Setting, in_session};
 use aq_base::{
-    BodyStatement, Bound, BoundConstraints, BoundSet, ConNo, ConstraintMode, Constraints, Copies,
-    Delete, ElseIf, Expr, Insert, List, Select, SetConstraints, Statement, TextVal, Update,
+    Bound, BoundConstraints, BoundSet, ConNo, ConstraintMode, Constraints, Copies, Delete, Expr,
+    Insert, List, Select, SetConstraints, Statement, TextVal, Update,
 };
 use aq_catalog::Catalog;
 use aq_refusals::{CatFault, no_constraint, not_deferrable};
@@ -191,80 +189,6 @@ pub fn condition_faults(
 {
     expression_names(alloc, scope, e)?;
     boolean_kinds(alloc, word, scope, e)
-}
-
-/// The condition of IF or ELSIF.
-fn if_condition(alloc: Global, setting: &Setting<'_>, e: &Expr) -> Result<(), CatFault>
-    ensures { Tells (binding.condition_faults (codes "IF") (scopes.no_row setting.now.changed) e.now) result }
-{
-    condition_faults(alloc, "IF", &no_row(setting.changed), e)
-}
-
-/// The faults of the statements of a body, in the order of the text.
-#[cycle(body_faults)]
-#[tactic(auto, using(aq_refusals::proofs::Loops::fault_at, aq_refusals::proofs::Loops::left_at))]
-pub fn body_faults(
-    alloc: Global,
-    setting: &Setting<'_>,
-    body: &List<BodyStatement>,
-) -> Result<(), CatFault>
-    ensures { Tells (binding.body_faults setting.now body.now) result }
-{
-    for s in body.as_slice() {
-        faults_in(alloc, setting, s)?;
-    }
-    Ok(())
-}
-
-#[cycle(body_faults)]
-fn else_if_faults(alloc: Global, setting: &Setting<'_>, branch: &ElseIf) -> Result<(), CatFault>
-    ensures { Tells (bodies.else_if_faults setting.now branch.now) result }
-{
-    if_condition(alloc, setting, &branch.condition)?;
-    body_faults(alloc, setting, &branch.then)
-}
-
-#[cycle(body_faults)]
-#[tactic(auto, using(aq_refusals::proofs::Loops::fault_at, aq_refusals::proofs::Loops::left_at))]
-fn else_ifs_faults(
-    alloc: Global,
-    setting: &Setting<'_>,
-    branches: &List<ElseIf>,
-) -> Result<(), CatFault>
-    ensures { Tells (flat_map (bodies.else_if_faults setting.now) branches.now) result }
-{
-    for branch in branches.as_slice() {
-        else_if_faults(alloc, setting, branch)?;
-    }
-    Ok(())
-}
-
-#[cycle(body_faults)]
-fn faults_in(alloc: Global, setting: &Setting<'_>, s: &BodyStatement) -> Result<(), CatFault>
-    ensures { Tells (bodies.faults_in setting.now s.now) result }
-{
-    match s {
-        BodyStatement::If {
-            condition,
-            then,
-            else_ifs,
-            otherwise,
-        } => {
-            if_condition(alloc, setting, condition)?;
-            body_faults(alloc, setting, then)?;
-            else_ifs_faults(alloc, setting, else_ifs)?;
-            match otherwise {
-                None => Ok(()),
-                Some(last) => body_faults(alloc, setting, last),
-            }
-        }
-        BodyStatement::Insert(s) => insert_faults(alloc, setting, s),
-        BodyStatement::Update(s) => update_faults(alloc, setting, s),
-        BodyStatement::Delete(s) => delete_faults(alloc, setting, s),
-        BodyStatement::Raise(_) | BodyStatement::Return(_) | BodyStatement::SetConstraints(_) => {
-            Ok(())
-        }
-    }
 }
 
 fn constraints_named(

@@ -5,12 +5,10 @@ ghost use Rattle.aq_expr.specs.Operators.{truth_of};
 ghost use Rattle.aq_expr.specs.Answers.{IsAnswer};
 ghost use Rattle.aq_expr.specs.Evaluation.{value_of, truth_in};
 
-use crate::arithmetic::{difference, negation, product, sum};
-use crate::comparing::{compared, distinct, not_distinct, not_null_test, null_test};
 use crate::env::Env;
 use crate::fault::{Answer, EvalFault};
 use crate::leaves::{cell, operation};
-use crate::logic::{conjunction, disjunction, opposite};
+use crate::operators::{of_binary, of_unary};
 use aq_base::{BoundExpr, Copies, Value};
 use std::alloc::{AllocError, Global};
 
@@ -24,43 +22,17 @@ fn answer(alloc: Global, e: &BoundExpr, env: &Env) -> Result<Answer, AllocError>
         BoundExpr::Old(column) => Ok(Ok(cell(env.old, *column)?)),
         BoundExpr::New(column) => Ok(Ok(cell(env.new, *column)?)),
         BoundExpr::Operation => Ok(Ok(operation(alloc, env.op)?)),
-        BoundExpr::Negate(a) => Ok(negation(answer(alloc, a.get(), env)?)),
-        BoundExpr::Multiply(a, b) => Ok(product(
-            answer(alloc, a.get(), env)?,
-            answer(alloc, b.get(), env)?,
-        )),
-        BoundExpr::Add(a, b) => Ok(sum(answer(alloc, a.get(), env)?, answer(alloc, b.get(), env)?)),
-        BoundExpr::Subtract(a, b) => Ok(difference(
-            answer(alloc, a.get(), env)?,
-            answer(alloc, b.get(), env)?,
-        )),
-        BoundExpr::Compare {
+        BoundExpr::Unary { operator, operand } => {
+            Ok(of_unary(*operator, answer(alloc, operand.get(), env)?))
+        }
+        BoundExpr::Binary {
             left,
-            comparison,
+            operator,
             right,
-        } => Ok(compared(
+        } => Ok(of_binary(
             answer(alloc, left.get(), env)?,
-            *comparison,
+            *operator,
             answer(alloc, right.get(), env)?,
-        )),
-        BoundExpr::IsNull(a) => Ok(null_test(answer(alloc, a.get(), env)?)),
-        BoundExpr::IsNotNull(a) => Ok(not_null_test(answer(alloc, a.get(), env)?)),
-        BoundExpr::IsDistinct(a, b) => Ok(distinct(
-            answer(alloc, a.get(), env)?,
-            answer(alloc, b.get(), env)?,
-        )),
-        BoundExpr::IsNotDistinct(a, b) => Ok(not_distinct(
-            answer(alloc, a.get(), env)?,
-            answer(alloc, b.get(), env)?,
-        )),
-        BoundExpr::Not(a) => Ok(opposite(answer(alloc, a.get(), env)?)),
-        BoundExpr::And(a, b) => Ok(conjunction(
-            answer(alloc, a.get(), env)?,
-            answer(alloc, b.get(), env)?,
-        )),
-        BoundExpr::Or(a, b) => Ok(disjunction(
-            answer(alloc, a.get(), env)?,
-            answer(alloc, b.get(), env)?,
         )),
     }
 }

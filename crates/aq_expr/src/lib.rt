@@ -8,6 +8,7 @@ mod evaluation;
 mod fault;
 mod leaves;
 mod logic;
+mod operators;
 
 pub use arithmetic::store;
 pub use env::Env;

@@ -110,6 +110,10 @@ no_such_key table =
 abbrev pub no_primary_key : Text → SqlFault
 no_primary_key table = fault (codes "42704") (codes "there is no primary key for referenced table " ++ quoted table)
 
+abbrev pub no_key_column : Text → SqlFault
+no_key_column column =
+    fault (codes "42P10") (codes "column " ++ quoted column ++ codes " referenced in ON DELETE SET action must be part of foreign key")
+
 abbrev pub unequal_kinds : Text → SqlFault
 unequal_kinds name = fault (codes "42804") (codes "foreign key constraint " ++ quoted name ++ codes " cannot be implemented")
 

@@ -382,6 +382,20 @@ pub fn no_primary_key(alloc: Global, table: &TextVal) -> CatFault
     )
 }
 
+pub fn no_key_column(alloc: Global, column: &TextVal) -> CatFault
+    ensures { IsFault (faults.no_key_column column.now ∷ []) result }
+{
+    refusal(
+        alloc,
+        b"42P10",
+        &[
+            Words("column "),
+            Quoted(column),
+            Words(" referenced in ON DELETE SET action must be part of foreign key"),
+        ],
+    )
+}
+
 pub fn unequal_kinds(alloc: Global, name: &TextVal) -> CatFault
     ensures { IsFault (faults.unequal_kinds name.now ∷ []) result }
 {

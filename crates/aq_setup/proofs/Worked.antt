@@ -5,7 +5,8 @@ use Rattle.std.specs.Fmt.{digits}
 use Rattle.aq_base.specs.Names.{Text}
 use Rattle.aq_base.specs.declared.value.Value.TheVariants as values
 use Rattle.aq_base.specs.declared.expr.Expr.{Expr}
-use Rattle.aq_base.specs.declared.expr.Expr.TheVariants.{Constant, Column, Add}
+use Rattle.aq_base.specs.declared.expr.BinaryOperator.TheVariants.{Add}
+use Rattle.aq_base.specs.declared.expr.Expr.TheVariants.{Constant, Column, Binary}
 use Rattle.aq_base.specs.declared.catalog.Op.TheVariants as ops
 use Rattle.aq_base.specs.declared.constraint.Match.TheVariants as matches
 use Rattle.aq_base.specs.declared.constraint.Action.TheVariants as actions
@@ -15,6 +16,7 @@ use Rattle.aq_base.specs.declared.constraint.ColumnConstraint.TheVariants as on_
 use Rattle.aq_base.specs.declared.constraint.TableConstraint.TheVariants as on_tables
 use Rattle.aq_base.specs.declared.data.Given.TheVariants as givens
 use Rattle.aq_base.specs.declared.data.Source.TheVariants as sources
+use Rattle.aq_base.specs.declared.script.Kind.{Kind}
 use Rattle.aq_base.specs.declared.script.Kind.TheVariants as kinds
 use Rattle.aq_base.specs.declared.table.TableItem.{TableItem}
 use Rattle.aq_base.specs.declared.table.TableItem.TheVariants as items
@@ -23,11 +25,11 @@ use Rattle.aq_base.specs.declared.trigger.Each.TheVariants as each
 use Rattle.aq_base.specs.declared.statement.Statement.{Statement}
 use Rattle.aq_base.specs.declared.statement.Statement.TheVariants as statements
 use Rattle.aq_catalog.specs.Catalogs.{Catalog, no_tables, triggers_of}
-use Rattle.aq_refusals.specs.Faults.{no_relation, no_column, no_such_key, unequal_rows, wrong_value, no_operator, assigned_twice, long_name, constraint_exists, trigger_reserved}
+use Rattle.aq_refusals.specs.Faults.{no_relation, no_column, no_such_key, no_primary_key, no_key_column, unequal_kinds, unequal_rows, wrong_value, no_operator, assigned_twice, long_name, constraint_exists, trigger_reserved}
 use Rattle.aq_setup.specs.Constraints.{named}
 use Rattle.aq_setup.specs.Binding.{bind}
 use Rattle.aq_setup.specs.Setup.{define, defined, setup}
-use Rattle.aq_setup.proofs.Expressions.{constant_names, column_names, sum_names, constant_kinded, column_kinded, sum_kinded}
+use Rattle.aq_setup.proofs.Expressions.{constant_names, column_names, binary_names, constant_kinded, column_kinded, binary_kinded}
 
 abbrev column : Text → List ColumnConstraint → TableItem
 column name constraints = items.Column name kinds.Integer constraints
@@ -39,6 +41,7 @@ to table columns =
       columns = columns;
       matching = matches.Simple;
       on_delete = actions.Cascade;
+      set_columns = None;
       on_update = actions.NoAction;
       timing = record { deferrable = false; deferred = false };
     }
@@ -109,6 +112,72 @@ later_key : define [] no_tables (statements.CreateTable (record {
 unfolding digits
 later_key = refl
 
+-- CREATE TABLE pair (a integer, b integer, PRIMARY KEY (a, b))
+abbrev pair : Statement
+pair =
+    statements.CreateTable (record {
+      table = codes "pair";
+      items = column (codes "a") [] ∷ column (codes "b") [] ∷ items.Constraint (on_tables.PrimaryKey None (codes "a" ∷ codes "b" ∷ [])) ∷ [];
+    })
+
+-- CREATE TABLE kid (x K, y integer, z integer, FOREIGN KEY (x, y) REFERENCES pair ON DELETE SET NULL, with or without a list)
+abbrev kid : Kind → Option (List Text) → Statement
+kid kind listed =
+    statements.CreateTable (record {
+      table = codes "kid";
+      items =
+          items.Column (codes "x") kind [] ∷ column (codes "y") [] ∷ column (codes "z") []
+          ∷ items.Constraint (on_tables.ForeignKey None (codes "x" ∷ codes "y" ∷ []) (record {
+            table = codes "pair";
+            columns = None;
+            matching = matches.Simple;
+            on_delete = actions.SetNull;
+            set_columns = listed;
+            on_update = actions.NoAction;
+            timing = record { deferrable = false; deferred = false };
+          }))
+          ∷ [];
+    })
+
+abbrev with_kid : Option (List Text) → Catalog
+with_kid listed = defined (defined no_tables pair) (kid kinds.Integer listed)
+
+-- SET NULL without a list is of all columns of the foreign key
+all_of_the_key : map (λ fk. fk.set_cols) (with_kid None).fks ≡ (0 ∷ 1 ∷ []) ∷ []
+unfolding digits
+all_of_the_key = refl
+
+-- SET NULL (y, x, y): a column that is named twice counts once, at its first place
+once_each : map (λ fk. fk.set_cols) (with_kid (Some (codes "y" ∷ codes "x" ∷ codes "y" ∷ []))).fks ≡ (1 ∷ 0 ∷ []) ∷ []
+unfolding digits
+once_each = refl
+
+-- SET NULL (y)
+one_of_the_key : map (λ fk. fk.set_cols) (with_kid (Some (codes "y" ∷ []))).fks ≡ (1 ∷ []) ∷ []
+unfolding digits
+one_of_the_key = refl
+
+-- SET NULL (y, z): z is none of the foreign key
+outside_the_key : define [] (defined no_tables pair) (kid kinds.Integer (Some (codes "y" ∷ codes "z" ∷ []))) ≡ Err (no_key_column (codes "z"))
+unfolding digits
+outside_the_key = refl
+
+-- SET NULL (nosuch): the same of a column that the table doesn't have, and before x, which is a text and refers to an integer
+outside_before_kinds : define [] (defined no_tables pair) (kid kinds.Text (Some (codes "nosuch" ∷ []))) ≡ Err (no_key_column (codes "nosuch"))
+unfolding digits
+outside_before_kinds = refl
+
+kinds_alone : define [] (defined no_tables pair) (kid kinds.Text (Some (codes "y" ∷ []))) ≡ Err (unequal_kinds (codes "kid_x_y_fkey"))
+unfolding digits
+kinds_alone = refl
+
+-- where pair has no primary key, that comes first
+primary_before_outside : define [] (defined no_tables (statements.CreateTable (record { table = codes "pair"; items = column (codes "a") [] ∷ [] })))
+    (kid kinds.Text (Some (codes "nosuch" ∷ [])))
+    ≡ Err (no_primary_key (codes "pair"))
+unfolding digits
+primary_before_outside = refl
+
 abbrev one : Expr
 one = Constant (values.Int (pos 1))
 
@@ -138,9 +207,9 @@ unequal : bind two_tables (statements.Insert (record {
 unequal = rw constant_names refl
 
 -- DELETE FROM p WHERE a + 'x'
-no_sum : bind two_tables (statements.Delete (record { table = codes "p"; condition = Some (Add (Column (codes "a")) (Constant (values.Text (codes "x")))) }))
+no_sum : bind two_tables (statements.Delete (record { table = codes "p"; condition = Some (Binary (Column (codes "a")) Add (Constant (values.Text (codes "x")))) }))
     ≡ Err (no_operator kinds.Integer (codes "+") kinds.Text)
-no_sum = rw (sum_names, constant_names, column_names, sum_kinded, constant_kinded, column_kinded) refl
+no_sum = rw (binary_names, constant_names, column_names, binary_kinded, constant_kinded, column_kinded) refl
 
 -- INSERT INTO p VALUES ('x')
 text_in_integer : bind two_tables (statements.Insert (record {
@@ -176,7 +245,7 @@ on_insert name =
     })
 
 abbrev with_function_f : Catalog
-with_function_f = defined two_tables (statements.CreateFunction (record { name = codes "f"; body = [] }))
+with_function_f = defined two_tables (statements.CreateFunction (record { name = codes "f"; body = record { statements = []; handlers = [] } }))
 
 -- capital letters come first: A, then the check of the reference, then a, then b
 in_name_order : triggers_of (defined (defined (defined with_function_f (on_insert (codes "b"))) (on_insert (codes "a"))) (on_insert (codes "A"))) 1 ops.Insert

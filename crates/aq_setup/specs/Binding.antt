@@ -1,6 +1,6 @@
 -- What a statement says once its names are numbers, and its faults: all of its names come before its lengths, and these before its kinds.
 -- The first fault is the answer (PostgreSQL source, analyze.c).
-use Rattle.std.specs.Prelude.{ℕ, Bool, false, not, List, [], ◌∷◌, ◌++◌, codes, Option, Some, None, Result, Ok, Err, if◌then◌else◌, map, option_map, slice_get}
+use Rattle.std.specs.Prelude.{ℕ, Bool, false, not, List, [], ◌∷◌, ◌++◌, Option, Some, None, Result, Ok, Err, if◌then◌else◌, map, option_map, slice_get}
 use Rattle.std.specs.List.{list_any, flat_map}
 use Rattle.aq_base.specs.Names.{Text}
 use Rattle.aq_base.specs.declared.fault.SqlFault.{SqlFault}
@@ -22,14 +22,11 @@ use Rattle.aq_base.specs.declared.modes.ConstraintMode.TheVariants as modes
 use Rattle.aq_base.specs.declared.modes.Constraints.{Constraints}
 use Rattle.aq_base.specs.declared.modes.Constraints.TheVariants as constrained
 use Rattle.aq_base.specs.declared.modes.SetConstraints.{SetConstraints}
-use Rattle.aq_base.specs.declared.body.BodyStatement.{BodyStatement, BodyStatement-F, fold-BodyStatement}
-use Rattle.aq_base.specs.declared.body.BodyStatement.TheOpen as bodies
-use Rattle.aq_base.specs.declared.body.ElseIf.{ElseIf-F}
 use Rattle.aq_base.specs.declared.statement.Statement.{Statement}
 use Rattle.aq_base.specs.declared.statement.Statement.TheVariants as statements
 use Rattle.aq_base.specs.declared.catalog.Column.{Column as TableColumn}
 use Rattle.aq_base.specs.declared.bound_expr.BoundExpr.{BoundExpr}
-use Rattle.aq_base.specs.declared.bound_expr.BoundExpr.TheVariants.{Constant, Column, Old, New, Operation, Negate, Multiply, Add, Subtract, Compare, IsNull, IsNotNull, IsDistinct, IsNotDistinct, Not, And, Or}
+use Rattle.aq_base.specs.declared.bound_expr.BoundExpr.TheVariants.{Constant, Column, Old, New, Operation, Unary, Binary}
 use Rattle.aq_base.specs.declared.bound_data.BoundGiven.{BoundGiven}
 use Rattle.aq_base.specs.declared.bound_data.BoundGiven.TheVariants as bound_givens
 use Rattle.aq_base.specs.declared.bound_data.BoundFrom.{BoundFrom}
@@ -48,9 +45,6 @@ use Rattle.aq_base.specs.declared.bound_statement.BoundConstraints.TheVariants a
 use Rattle.aq_base.specs.declared.bound_statement.BoundSet.{BoundSet}
 use Rattle.aq_base.specs.declared.bound_statement.Bound.{Bound}
 use Rattle.aq_base.specs.declared.bound_statement.Bound.TheVariants as bound_statements
-use Rattle.aq_base.specs.declared.bound_body.BoundBodyStatement.{BoundBodyStatement}
-use Rattle.aq_base.specs.declared.bound_body.BoundBodyStatement.TheVariants as bound_bodies
-use Rattle.aq_base.specs.declared.bound_body.BoundElseIf.{BoundElseIf}
 use Rattle.aq_catalog.specs.Catalogs.{Catalog, table_columns, constraints_named, number_of_table, number_of_column}
 use Rattle.aq_setup.specs.Scopes.{Setting, in_session, Scope, no_row, table_scope, is_text, query_scope}
 use Rattle.aq_setup.specs.Names.{expression_names, insert_names, update_names, delete_names, select_names}
@@ -67,18 +61,8 @@ bound_step scope (exprs.Qualified table column) = Column (number_of_column scope
 bound_step scope (exprs.Old column) = Old (number_of_column scope.changed column)
 bound_step scope (exprs.New column) = New (number_of_column scope.changed column)
 bound_step scope exprs.Operation = Operation
-bound_step scope (exprs.Negate a) = Negate a
-bound_step scope (exprs.Multiply a b) = Multiply a b
-bound_step scope (exprs.Add a b) = Add a b
-bound_step scope (exprs.Subtract a b) = Subtract a b
-bound_step scope (exprs.Compare a sign b) = Compare a sign b
-bound_step scope (exprs.IsNull a) = IsNull a
-bound_step scope (exprs.IsNotNull a) = IsNotNull a
-bound_step scope (exprs.IsDistinct a b) = IsDistinct a b
-bound_step scope (exprs.IsNotDistinct a b) = IsNotDistinct a b
-bound_step scope (exprs.Not a) = Not a
-bound_step scope (exprs.And a b) = And a b
-bound_step scope (exprs.Or a b) = Or a b
+bound_step scope (exprs.Unary operator a) = Unary operator a
+bound_step scope (exprs.Binary a operator b) = Binary a operator b
 
 abbrev pub bound_expression : Scope → Expr → BoundExpr
 bound_expression scope e = fold-Expr BoundExpr (bound_step scope) e
@@ -208,53 +192,7 @@ unless_faulty (fault ∷ others) x = Err fault
 abbrev pub bind : Catalog → Statement → Result Bound SqlFault
 bind cat s = unless_faulty (statement_faults cat s) (bound cat s)
 
--- ---- bodies. Each statement, and each condition of an IF, has its names before its kinds; statements go in the order of the text.
+-- ---- conditions of WHEN and IF
 
 abbrev pub condition_faults : Text → Scope → Expr → List SqlFault
 condition_faults word scope e = expression_names scope e ++ boolean_kinds word scope e
-
-abbrev pub all_faults : List (List SqlFault) → List SqlFault
-all_faults found = flat_map (λ faults. faults) found
-
-abbrev pub faults_of_option : Option (List (List SqlFault)) → List SqlFault
-faults_of_option None = []
-faults_of_option (Some found) = all_faults found
-
-abbrev pub else_if_faults_step : Setting → ElseIf-F (List SqlFault) (List SqlFault) → List SqlFault
-else_if_faults_step setting branch = condition_faults (codes "IF") (no_row setting.changed) branch.condition ++ all_faults branch.then
-
-abbrev pub body_faults_step : Setting → BodyStatement-F (List SqlFault) (List SqlFault) → List SqlFault
-body_faults_step setting (bodies.If condition first others last) =
-    condition_faults (codes "IF") (no_row setting.changed) condition ++ (all_faults first ++ (all_faults others ++ faults_of_option last))
-body_faults_step setting (bodies.Raise text) = []
-body_faults_step setting (bodies.Return what) = []
-body_faults_step setting (bodies.Insert s) = insert_faults setting s
-body_faults_step setting (bodies.Update s) = update_faults setting s
-body_faults_step setting (bodies.Delete s) = delete_faults setting s
-body_faults_step setting (bodies.SetConstraints s) = []
-
-abbrev pub body_faults : Setting → List BodyStatement → List SqlFault
-body_faults setting body =
-    flat_map (λ s. fold-BodyStatement (List SqlFault) (List SqlFault) (body_faults_step setting) (else_if_faults_step setting) s) body
-
--- a statement is bound as itself; the names of SET CONSTRAINTS are looked up when it runs
-abbrev pub else_if_bound_step : Setting → ElseIf-F BoundBodyStatement BoundElseIf → BoundElseIf
-else_if_bound_step setting branch =
-    record { condition = bound_expression (no_row setting.changed) branch.condition; then = branch.then }
-
-abbrev pub body_bound_step : Setting → BodyStatement-F BoundBodyStatement BoundElseIf → BoundBodyStatement
-body_bound_step setting (bodies.If condition first others last) =
-    bound_bodies.If (bound_expression (no_row setting.changed) condition) first others last
-body_bound_step setting (bodies.Raise text) = bound_bodies.Raise text
-body_bound_step setting (bodies.Return what) = bound_bodies.Return what
-body_bound_step setting (bodies.Insert s) = bound_bodies.Insert (bound_insert setting s)
-body_bound_step setting (bodies.Update s) = bound_bodies.Update (bound_update setting s)
-body_bound_step setting (bodies.Delete s) = bound_bodies.Delete (bound_delete setting s)
-body_bound_step setting (bodies.SetConstraints s) = bound_bodies.SetConstraints s
-
-abbrev pub bound_body_statement : Setting → BodyStatement → BoundBodyStatement
-bound_body_statement setting s =
-    fold-BodyStatement BoundBodyStatement BoundElseIf (body_bound_step setting) (else_if_bound_step setting) s
-
-abbrev pub bound_body : Setting → List BodyStatement → List BoundBodyStatement
-bound_body setting body = map (bound_body_statement setting) body

@@ -10,6 +10,10 @@ use Rattle.aq_base.specs.declared.script.Kind.{Kind}
 use Rattle.aq_base.specs.declared.script.Kind.TheVariants as kinds
 use Rattle.aq_base.specs.declared.expr.Comparison.{Comparison}
 use Rattle.aq_base.specs.declared.expr.Comparison.TheVariants as comparisons
+use Rattle.aq_base.specs.declared.expr.UnaryOperator.{UnaryOperator}
+use Rattle.aq_base.specs.declared.expr.UnaryOperator.TheVariants as unary
+use Rattle.aq_base.specs.declared.expr.BinaryOperator.{BinaryOperator}
+use Rattle.aq_base.specs.declared.expr.BinaryOperator.TheVariants as binary
 use Rattle.aq_base.specs.declared.expr.Expr.{Expr, Expr-F, fold-Expr}
 use Rattle.aq_base.specs.declared.expr.Expr.TheOpen as exprs
 use Rattle.aq_base.specs.declared.data.Given.{Given}
@@ -70,17 +74,13 @@ abbrev pub operator_faults : (Kind → Kind → Bool) → Text → Option (Kind 
 operator_faults fits sign None = []
 operator_faults fits sign (Some found) = if fits found.0 found.1 then [] else no_operator found.0 sign found.1 ∷ []
 
-abbrev pub operated : Kind → (Kind → Kind → Bool) → Text → Kinded → Kinded → Kinded
-operated result fits sign a b =
-    record { kind = Some result; faults = a.faults ++ (b.faults ++ operator_faults fits sign (operand_kinds a.kind b.kind)) }
-
--- a sum, a difference or a product is bigint
-abbrev pub arithmetic : Text → Kinded → Kinded → Kinded
-arithmetic sign a b = operated kinds.Bigint (λ x y. is_number x && is_number y) sign a b
+-- the operands of a sum, a difference or a product are numbers
+abbrev pub number_faults : Text → Option Kind → Option Kind → List SqlFault
+number_faults sign a b = operator_faults (λ x y. is_number x && is_number y) sign (operand_kinds a b)
 
 -- both sides of a comparison have one kind
-abbrev pub compared : Text → Kinded → Kinded → Kinded
-compared sign a b = operated kinds.Boolean same_kind sign a b
+abbrev pub comparison_faults : Text → Option Kind → Option Kind → List SqlFault
+comparison_faults sign a b = operator_faults same_kind sign (operand_kinds a b)
 
 abbrev pub comparison_sign : Comparison → Text
 comparison_sign comparisons.Equal = codes "="
@@ -95,12 +95,46 @@ negation_faults None = []
 negation_faults (Some kind) = if is_number kind then [] else no_negation kind ∷ []
 
 -- the argument of WHERE, AND, OR, NOT, WHEN or IF is boolean
-abbrev pub argument_faults : Text → Kinded → List SqlFault
-argument_faults word a = elim a.kind [ None ↦ [] | Some kind ↦ if is_boolean kind then [] else no_boolean word kind ∷ [] ]
+abbrev pub argument_faults : Text → Option Kind → List SqlFault
+argument_faults word None = []
+argument_faults word (Some kind) = if is_boolean kind then [] else no_boolean word kind ∷ []
 
-abbrev pub joined : Text → Kinded → Kinded → Kinded
-joined word a b =
-    record { kind = Some kinds.Boolean; faults = a.faults ++ (b.faults ++ (argument_faults word a ++ argument_faults word b)) }
+abbrev pub truth_faults : Text → Option Kind → Option Kind → List SqlFault
+truth_faults word a b = argument_faults word a ++ argument_faults word b
+
+-- what an operator finds wrong with the kinds of its operands. IS [NOT] DISTINCT FROM is told as `=`.
+abbrev pub unary_faults : UnaryOperator → Option Kind → List SqlFault
+unary_faults unary.Negate a = negation_faults a
+unary_faults unary.Not a = argument_faults (codes "NOT") a
+unary_faults unary.IsNull a = []
+unary_faults unary.IsNotNull a = []
+
+abbrev pub binary_faults : BinaryOperator → Option Kind → Option Kind → List SqlFault
+binary_faults binary.Multiply a b = number_faults (codes "*") a b
+binary_faults binary.Add a b = number_faults (codes "+") a b
+binary_faults binary.Subtract a b = number_faults (codes "-") a b
+binary_faults (binary.Compare comparison) a b = comparison_faults (comparison_sign comparison) a b
+binary_faults binary.IsDistinct a b = comparison_faults (codes "=") a b
+binary_faults binary.IsNotDistinct a b = comparison_faults (codes "=") a b
+binary_faults binary.And a b = truth_faults (codes "AND") a b
+binary_faults binary.Or a b = truth_faults (codes "OR") a b
+
+-- the kind of what an operator gives: a negation, a sum, a difference or a product is bigint, all else is boolean
+abbrev pub unary_kind : UnaryOperator → Kind
+unary_kind unary.Negate = kinds.Bigint
+unary_kind unary.Not = kinds.Boolean
+unary_kind unary.IsNull = kinds.Boolean
+unary_kind unary.IsNotNull = kinds.Boolean
+
+abbrev pub binary_kind : BinaryOperator → Kind
+binary_kind binary.Multiply = kinds.Bigint
+binary_kind binary.Add = kinds.Bigint
+binary_kind binary.Subtract = kinds.Bigint
+binary_kind (binary.Compare comparison) = kinds.Boolean
+binary_kind binary.IsDistinct = kinds.Boolean
+binary_kind binary.IsNotDistinct = kinds.Boolean
+binary_kind binary.And = kinds.Boolean
+binary_kind binary.Or = kinds.Boolean
 
 abbrev pub kinded_step : Scope → Expr-F Kinded → Kinded
 kinded_step scope (exprs.Constant value) = of_kind (constant_kind value)
@@ -109,18 +143,10 @@ kinded_step scope (exprs.Qualified table column) = of_kind (column_kind (qualifi
 kinded_step scope (exprs.Old column) = of_kind (column_kind scope.changed column)
 kinded_step scope (exprs.New column) = of_kind (column_kind scope.changed column)
 kinded_step scope exprs.Operation = of_kind (Some kinds.Text)
-kinded_step scope (exprs.Negate a) = record { kind = Some kinds.Bigint; faults = a.faults ++ negation_faults a.kind }
-kinded_step scope (exprs.Multiply a b) = arithmetic (codes "*") a b
-kinded_step scope (exprs.Add a b) = arithmetic (codes "+") a b
-kinded_step scope (exprs.Subtract a b) = arithmetic (codes "-") a b
-kinded_step scope (exprs.Compare a sign b) = compared (comparison_sign sign) a b
-kinded_step scope (exprs.IsNull a) = record { kind = Some kinds.Boolean; faults = a.faults }
-kinded_step scope (exprs.IsNotNull a) = record { kind = Some kinds.Boolean; faults = a.faults }
-kinded_step scope (exprs.IsDistinct a b) = compared (codes "=") a b
-kinded_step scope (exprs.IsNotDistinct a b) = compared (codes "=") a b
-kinded_step scope (exprs.Not a) = record { kind = Some kinds.Boolean; faults = a.faults ++ argument_faults (codes "NOT") a }
-kinded_step scope (exprs.And a b) = joined (codes "AND") a b
-kinded_step scope (exprs.Or a b) = joined (codes "OR") a b
+kinded_step scope (exprs.Unary operator a) =
+    record { kind = Some (unary_kind operator); faults = a.faults ++ unary_faults operator a.kind }
+kinded_step scope (exprs.Binary a operator b) =
+    record { kind = Some (binary_kind operator); faults = a.faults ++ (b.faults ++ binary_faults operator a.kind b.kind) }
 
 abbrev pub kinded : Scope → Expr → Kinded
 kinded scope e = fold-Expr Kinded (kinded_step scope) e
@@ -128,7 +154,7 @@ kinded scope e = fold-Expr Kinded (kinded_step scope) e
 -- ---- conditions and values that are stored
 
 abbrev pub boolean_kinds : Text → Scope → Expr → List SqlFault
-boolean_kinds word scope e = (kinded scope e).faults ++ argument_faults word (kinded scope e)
+boolean_kinds word scope e = (kinded scope e).faults ++ argument_faults word (kinded scope e).kind
 
 abbrev pub where_kinds : Scope → Option Expr → List SqlFault
 where_kinds scope None = []

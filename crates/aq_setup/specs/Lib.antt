@@ -6,6 +6,7 @@ pub mod Names
 pub mod Lengths
 pub mod Kinds
 pub mod Binding
+pub mod Bodies
 pub mod Constraints
 pub mod References
 pub mod Tables

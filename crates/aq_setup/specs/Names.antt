@@ -35,18 +35,8 @@ unknown_step scope (exprs.Qualified table column) = unknown (qualified_cols scop
 unknown_step scope (exprs.Old column) = unknown scope.changed column
 unknown_step scope (exprs.New column) = unknown scope.changed column
 unknown_step scope exprs.Operation = []
-unknown_step scope (exprs.Negate a) = a
-unknown_step scope (exprs.Multiply a b) = a ++ b
-unknown_step scope (exprs.Add a b) = a ++ b
-unknown_step scope (exprs.Subtract a b) = a ++ b
-unknown_step scope (exprs.Compare a sign b) = a ++ b
-unknown_step scope (exprs.IsNull a) = a
-unknown_step scope (exprs.IsNotNull a) = a
-unknown_step scope (exprs.IsDistinct a b) = a ++ b
-unknown_step scope (exprs.IsNotDistinct a b) = a ++ b
-unknown_step scope (exprs.Not a) = a
-unknown_step scope (exprs.And a b) = a ++ b
-unknown_step scope (exprs.Or a b) = a ++ b
+unknown_step scope (exprs.Unary operator a) = a
+unknown_step scope (exprs.Binary a operator b) = a ++ b
 
 -- the columns of an expression that are not there
 abbrev pub unknown_columns : Scope → Expr → List Text

@@ -16,6 +16,8 @@ pub record SetupFaults : Type 0 where
   pub referred : List SqlFault
   -- 42704: no primary key to refer to
   pub unkeyed : List SqlFault
+  -- 42P10: a column behind ON DELETE that is none of the foreign key
+  pub outside : List SqlFault
   -- 42804: kinds that differ
   pub kinds : List SqlFault
   -- 0A000: transition tables
@@ -29,9 +31,9 @@ pub record SetupFaults : Type 0 where
 
 abbrev pub faultless : SetupFaults
 faultless =
-    record { limits = []; exists = []; twice = []; missing = []; referred = []; unkeyed = []; kinds = []; transitions = []; forms = []; reserved = []; bodies = [] }
+    record { limits = []; exists = []; twice = []; missing = []; referred = []; unkeyed = []; outside = []; kinds = []; transitions = []; forms = []; reserved = []; bodies = [] }
 
 abbrev pub in_order : SetupFaults → List SqlFault
 in_order f =
     f.limits
-    ++ (f.exists ++ (f.twice ++ (f.missing ++ (f.referred ++ (f.unkeyed ++ (f.kinds ++ (f.transitions ++ (f.forms ++ (f.reserved ++ f.bodies)))))))))
+    ++ (f.exists ++ (f.twice ++ (f.missing ++ (f.referred ++ (f.unkeyed ++ (f.outside ++ (f.kinds ++ (f.transitions ++ (f.forms ++ (f.reserved ++ f.bodies))))))))))

@@ -35,7 +35,7 @@ use Rattle.aq_setup.specs.Scopes.{repeats, repeats_behind}
 use Rattle.aq_setup.specs.Names.{unknown, table_faults}
 use Rattle.aq_setup.specs.Kinds.{same_kind, constant_kind}
 use Rattle.aq_setup.specs.Constraints.{of_item, constrained_columns, reference_of, is_primary, NamedConstraint, named}
-use Rattle.aq_setup.specs.References.{parent_cols, count_faults, key_faults, primary_faults, kind_faults}
+use Rattle.aq_setup.specs.References.{parent_cols, set_numbers, count_faults, key_faults, primary_faults, set_faults, kind_faults}
 use Rattle.aq_setup.specs.Order.{SetupFaults, faultless}
 use Rattle.aq_refusals.specs.Faults.{no_column, column_twice, over_limit, long_name, relation_exists, constraint_exists, many_primary_keys, wrong_default}
 
@@ -180,6 +180,7 @@ with_reference child f cat =
             on_delete = f.reference.on_delete;
             on_update = f.reference.on_update;
             con = con;
+            set_cols = set_numbers (columns_at cat child) f.cols f.reference.set_columns;
           }
           ∷ [];
       constraints = cat.constraints ++ record { name = f.name; table = child; decl = f.reference.timing } ∷ [];
@@ -250,6 +251,10 @@ unreferable a =
 abbrev pub without_primary : Added → List SqlFault
 without_primary a = flat_map (λ f. primary_faults (keyed a) f.reference) (referring a)
 
+-- 42P10
+abbrev pub outside_keys : Added → List SqlFault
+outside_keys a = flat_map (λ f. set_faults f.cols f.reference) (referring a)
+
 -- 42804 of foreign keys
 abbrev pub unequal_references : Added → List SqlFault
 unequal_references a = flat_map (λ f. kind_faults (keyed a) a.table f.name f.cols f.reference) (referring a)
@@ -290,6 +295,7 @@ create_table_faults cat s =
       missing = missing_parents a ++ missing_columns a;
       referred = unreferable a;
       unkeyed = without_primary a;
+      outside = outside_keys a;
       kinds = unequal_references a ++ flat_map default_faults (declared_columns s.items);
     }
 
@@ -303,5 +309,6 @@ alter_table_faults cat s =
       missing = table_faults cat s.table ++ (missing_parents a ++ missing_columns a);
       referred = unreferable a;
       unkeyed = without_primary a;
+      outside = outside_keys a;
       kinds = unequal_references a;
     }

@@ -25,7 +25,8 @@ use Rattle.aq_base.specs.declared.catalog.NativeName.{NativeName}
 use Rattle.aq_catalog.specs.Catalogs.{Catalog, table_number, table_columns, function_named, native_named, trigger_names, number_of_table, number_of_column, names_taken}
 use Rattle.aq_setup.specs.Scopes.{Setting, no_row, repeats}
 use Rattle.aq_setup.specs.Names.{unknown, table_faults}
-use Rattle.aq_setup.specs.Binding.{bound_expression, condition_faults, body_faults, bound_body}
+use Rattle.aq_setup.specs.Binding.{bound_expression, condition_faults}
+use Rattle.aq_setup.specs.Bodies.{body_faults, bound_body}
 use Rattle.aq_setup.specs.Order.{SetupFaults, faultless}
 use Rattle.aq_refusals.specs.Faults.{no_column, column_twice, over_limit, trigger_exists, constraint_exists, no_function, transition_events, transition_columns, no_old_table, no_new_table, no_old_or_new, native_misused, trigger_reserved}
 
@@ -127,18 +128,8 @@ uses_old_step (exprs.Qualified table column) = false
 uses_old_step (exprs.Old column) = true
 uses_old_step (exprs.New column) = false
 uses_old_step exprs.Operation = false
-uses_old_step (exprs.Negate a) = a
-uses_old_step (exprs.Multiply a b) = a || b
-uses_old_step (exprs.Add a b) = a || b
-uses_old_step (exprs.Subtract a b) = a || b
-uses_old_step (exprs.Compare a sign b) = a || b
-uses_old_step (exprs.IsNull a) = a
-uses_old_step (exprs.IsNotNull a) = a
-uses_old_step (exprs.IsDistinct a b) = a || b
-uses_old_step (exprs.IsNotDistinct a b) = a || b
-uses_old_step (exprs.Not a) = a
-uses_old_step (exprs.And a b) = a || b
-uses_old_step (exprs.Or a b) = a || b
+uses_old_step (exprs.Unary operator a) = a
+uses_old_step (exprs.Binary a operator b) = a || b
 
 -- where an expression has NEW, and else as for OLD
 abbrev pub uses_new_step : Expr-F Bool → Bool

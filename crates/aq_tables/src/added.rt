@@ -12,7 +12,7 @@ ghost use Rattle.aq_refusals.specs.Faults as faults;
 ghost use Rattle.aq_refusals.specs.Answers.{Tells};
 ghost use Rattle.aq_tables.specs.References.{reference_faults};
 
-use crate::references::{count_faults, key_faults, kind_faults, primary_faults};
+use crate::references::{count_faults, key_faults, kind_faults, primary_faults, set_faults};
 use aq_additions::{NamedConstraint, NamesTaken, Referring, columns_twice};
 use aq_base::{Reference, TableConstraint, TextVal};
 use aq_binder::{columns_known, in_session, table_faults};
@@ -271,6 +271,21 @@ fn without_primary(alloc: Global, keyed: &Catalog, found: &[Referring<'_>]) -> R
     Ok(())
 }
 
+fn outside_of(alloc: Global, f: &Referring<'_>) -> Result<(), CatFault>
+    ensures { Tells (references.set_faults f.now.cols f.now.reference) result }
+{
+    set_faults(alloc, f.cols.as_slice(), f.reference)
+}
+
+fn outside_keys(alloc: Global, found: &[Referring<'_>]) -> Result<(), CatFault>
+    ensures { Tells (flat_map (λ f. references.set_faults f.cols f.reference) found.now) result }
+{
+    for f in found {
+        outside_of(alloc, f)?;
+    }
+    Ok(())
+}
+
 fn kinds_of(
     alloc: Global,
     keyed: &Catalog,
@@ -296,7 +311,7 @@ fn unequal_references(
     Ok(())
 }
 
-/// 42830, 42704 and 42804 of foreign keys, in a catalog with the keys of the statement.
+/// 42830, 42704, 42P10 and 42804 of foreign keys, in a catalog with the keys of the statement.
 pub fn reference_faults(
     alloc: Global,
     keyed: &Catalog,
@@ -308,5 +323,6 @@ pub fn reference_faults(
     unequal_counts(alloc, keyed, found)?;
     without_key(alloc, keyed, found)?;
     without_primary(alloc, keyed, found)?;
+    outside_keys(alloc, found)?;
     unequal_references(alloc, keyed, table, found)
 }

@@ -1,18 +1,22 @@
 //! What a foreign key refers to, and its faults (PostgreSQL source, tablecmds.c, ATAddForeignKeyConstraint). The catalog has the keys of
 //! the statement itself.
 
-ghost use Rattle.std.specs.Prelude.{◌≡◌, zip};
-ghost use Rattle.std.specs.List.{list_all};
+ghost use Rattle.std.specs.Prelude.{◌≡◌, [], ◌∷◌, if◌then◌else◌, unwrap_or, zip};
+ghost use Rattle.std.specs.List.{list_all, list_any};
+ghost use Rattle.aq_base.specs.Names.{same_text};
 ghost use Rattle.aq_catalog.specs.Catalogs.{number_of_column, is_number_in};
 ghost use Rattle.aq_setup.specs.References as references;
+ghost use Rattle.aq_refusals.specs.Faults as faults;
 ghost use Rattle.aq_refusals.specs.Answers.{Tells};
 ghost use Rattle.aq_tables.specs.Pairs.{fit_at};
 
 use aq_additions::parent_cols;
 use aq_base::{ColNo, Column, Kind, List, Reference, TextVal};
-use aq_binder::same_kind;
+use aq_binder::{is_in, same_kind};
 use aq_catalog::{Catalog, is_column_in, kind_at, number_of_column, number_of_table};
-use aq_refusals::{CatFault, no_primary_key, no_such_key, unequal_columns, unequal_kinds};
+use aq_refusals::{
+    CatFault, no_key_column, no_primary_key, no_such_key, unequal_columns, unequal_kinds,
+};
 use std::alloc::Global;
 
 fn are_all_in(a: &[ColNo], b: &[ColNo]) -> bool
@@ -85,6 +89,35 @@ pub(crate) fn primary_faults(
         None => Err(no_primary_key(alloc, &r.table)),
         Some(_) => Ok(()),
     }
+}
+
+fn set_columns(r: &Reference) -> &[TextVal]
+    ensures { result.now ≡ unwrap_or r.now.set_columns [] }
+{
+    match &r.set_columns {
+        None => &[],
+        Some(names) => names.as_slice(),
+    }
+}
+
+fn set_column(alloc: Global, cols: &[TextVal], name: &TextVal) -> Result<(), CatFault>
+    ensures { Tells (if list_any (same_text name.now) cols.now then [] else faults.no_key_column name.now ∷ []) result }
+{
+    if is_in(cols, name) {
+        Ok(())
+    } else {
+        Err(no_key_column(alloc, name))
+    }
+}
+
+/// The columns of the list behind ON DELETE are columns of the foreign key.
+pub(crate) fn set_faults(alloc: Global, cols: &[TextVal], r: &Reference) -> Result<(), CatFault>
+    ensures { Tells (references.set_faults cols.now r.now) result }
+{
+    for name in set_columns(r) {
+        set_column(alloc, cols, name)?;
+    }
+    Ok(())
 }
 
 fn kinds_fit(a: Option<Kind>, b: Option<Kind>) -> bool

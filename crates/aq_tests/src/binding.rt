@@ -4,7 +4,7 @@ use crate::table::{Subject, first_wrong};
 use aq_base::{
     Bound, BoundColumns, BoundConstraints, BoundExpr, BoundGiven, BoundInsert, BoundSelect,
     BoundSet, BoundSource, BoundUpdate, ConNo, ConstraintMode, List, NoMemory, Script, Statement,
-    TextVal, Value,
+    TextVal, UnaryOperator, Value,
 };
 use aq_binder::Bind;
 use aq_catalog::Catalog;
@@ -64,7 +64,10 @@ fn given_told(given: &BoundGiven) -> &'static str {
 fn condition_told(condition: &Option<BoundExpr>) -> &'static str {
     match condition {
         None => "everywhere",
-        Some(BoundExpr::IsNull(operand)) => match operand.get() {
+        Some(BoundExpr::Unary {
+            operator: UnaryOperator::IsNull,
+            operand,
+        }) => match operand.get() {
             BoundExpr::Column(column) if column.get() == 0 => "where column 0 is null",
             _ => "where another is null",
         },

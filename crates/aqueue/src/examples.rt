@@ -2,6 +2,44 @@
 //! is read.
 
 pub(crate) const EXAMPLES: &str = "\
+==== check
+\\setup
+create table account (id integer, part integer, amount bigint default 0, primary key (id, part));
+create table payment (
+    no integer primary key,
+    account integer,
+    part integer default 1,
+    foreign key (account, part) references account on delete set default (part) initially deferred
+);
+create table log (no integer, why text);
+create function keep() returns trigger language plpgsql as $$
+begin
+    begin
+        insert into account (id, part) values (new.account, new.part);
+    exception
+        when unique_violation then
+            update account set amount = amount + 1 where id = new.account and part = new.part;
+        when not_null_violation or sqlstate '22003' then
+            insert into log values (new.no, 'no account');
+    end;
+    return null;
+exception when others then
+    raise exception 'the payment is not kept';
+end $$;
+create trigger keep_payment after insert on payment
+    for each row execute function keep();
+\\session a
+insert into payment (no, account) values (1, 7), (2, 7);
+
+---- 0
+\\setup
+CREATE TABLE account (id integer, part integer, amount bigint DEFAULT 0, PRIMARY KEY (id, part));
+CREATE TABLE payment (no integer PRIMARY KEY, account integer, part integer DEFAULT 1, FOREIGN KEY (account, part) REFERENCES account ON DELETE SET DEFAULT (part) DEFERRABLE INITIALLY DEFERRED);
+CREATE TABLE log (no integer, why text);
+CREATE FUNCTION keep() RETURNS trigger LANGUAGE plpgsql AS $$ BEGIN BEGIN INSERT INTO account (id, part) VALUES (NEW.account, NEW.part); EXCEPTION WHEN unique_violation THEN UPDATE account SET amount = amount + 1 WHERE (id = NEW.account) AND (part = NEW.part); WHEN not_null_violation OR SQLSTATE '22003' THEN INSERT INTO log VALUES (NEW.no, 'no account'); END; RETURN NULL; EXCEPTION WHEN OTHERS THEN RAISE EXCEPTION 'the payment is not kept'; END $$;
+CREATE TRIGGER keep_payment AFTER INSERT ON payment FOR EACH ROW EXECUTE FUNCTION keep();
+\\session a
+INSERT INTO payment (no, account) VALUES (1, 7), (2, 7);
 ==== replay
 \\setup
 CREATE TABLE p (id integer PRIMARY KEY);

@@ -2,7 +2,7 @@ use Rattle.std.proofs.Common.{ap, ◌∙◌, codes}
 use Rattle.aq_setup.specs.Scopes.{Setting, Scope, no_row}
 use Rattle.aq_setup.specs.Binding.{condition_faults}
 use Rattle.aq_refusals.proofs.Telling.{same_told}
-use Rattle.aq_binder.proofs.statements.if_condition.Goals as goal
+use Rattle.aq_binder.proofs.refused_bodies.if_faults.Goals as goal
 
 pub returns : goal.returns
 returns c =
