@@ -37,6 +37,15 @@ handlers_are : (handlers : List Handler) → map handler handlers ≡ map handle
 handlers_are [] = refl
 handlers_are (first ∷ others) = ap₂ (λ (x : List Written) (y : List (List Written)). x ∷ y) (texts.handler_is first) (handlers_are others)
 
+-- EXCEPTION and one handler after the other
+pub exception_is : (first : Handler) (others : List Handler)
+    → exception (map handler_tokens (first ∷ others)) ≡ say (codes "EXCEPTION") ∷ (handler_tokens first ++ flat_map handler_tokens others)
+exception_is first others = ap (λ (tokens : List Written). say (codes "EXCEPTION") ∷ (handler_tokens first ++ tokens)) (one_by_one others)
+  where
+    one_by_one : (handlers : List Handler) → flat_map (λ (tokens : List Written). tokens) (map handler_tokens handlers) ≡ flat_map handler_tokens handlers
+    one_by_one [] = refl
+    one_by_one (first ∷ others) = ap (λ (tokens : List Written). handler_tokens first ++ tokens) (one_by_one others)
+
 abbrev pub block_tokens : List BodyStatement → List Handler → List Written
 block_tokens statements handlers = begin_end (block statements) (exception (map handler_tokens handlers))
 

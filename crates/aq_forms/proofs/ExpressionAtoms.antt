@@ -115,7 +115,7 @@ number_fits (Text text) fit = cc
 number_fits (Symbol symbol) fit = cc
 number_fits (Directive directive) fit = cc
 
-text_fits : (test : Bytes → Bool) (lexeme : Lexeme) → text_is test lexeme ≡ true → IsSound lexeme → (test (lexeme_text lexeme) ≡ true) × IsUtf8 (lexeme_text lexeme)
+pub text_fits : (test : Bytes → Bool) (lexeme : Lexeme) → text_is test lexeme ≡ true → IsSound lexeme → (test (lexeme_text lexeme) ≡ true) × IsUtf8 (lexeme_text lexeme)
 text_fits test (Word text) fit sound = cc
 text_fits test (QuotedName text) fit sound = cc
 text_fits test (Integer number) fit sound = cc

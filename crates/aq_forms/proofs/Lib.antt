@@ -31,6 +31,8 @@ pub mod ColumnConstraints
 pub mod Tables
 pub mod BodyForms
 pub mod Depths
+pub mod BlockEnds
+pub mod Conditions
 pub mod Bodies
 pub mod Functions
 pub mod Events

@@ -8,12 +8,11 @@ use Rattle.aq_lex.specs.declared.token.Directive.TheVariants.{Session}
 use Rattle.aq_lex.specs.Lexemes.{PlacedLexeme}
 use Rattle.aq_grammar.specs.Terminals.{PlainName, Heading, text_of}
 use Rattle.aq_grammar.specs.Rules.{refused}
-use Rattle.aq_grammar.specs.Reading.{Read, read_unless}
+use Rattle.aq_grammar.specs.Reading.{Outcome, Read, read_unless}
 use Rattle.aq_grammar.specs.Nonterminals.{rules, marks, reads_called, reads}
 use Rattle.aq_grammar.proofs.Fit.{rules_fit}
 use Rattle.aq_grammar.proofs.Fuel.{Shortens, shortens_at_least, stop_or_shortens, called_shortens, token_shortens, both_shortens, shortens_by, called_shortens_by}
 use Rattle.aq_grammar.proofs.Shorter.{reads_shorten}
-use Rattle.aq_parse.proofs.Blocks.{left_is_shorter}
 use Rattle.aq_script.specs.Sections.{Section, in_session, kinds_of, ended, heading, session_name, item, refused_names}
 use Rattle.aq_script.specs.Parsing.{line_of, read_placed, refused_behind, read_all_statements, read_name, read_session}
 use Rattle.aq_script.proofs.Fit.{SectionFits, session_fits, item_fits}
@@ -34,6 +33,10 @@ placed_shortens : (section : Section) → SectionFits section → (tokens : List
 placed_shortens section fits tokens =
     called_shortens false (length tokens) (λ statement. record { line = line_of tokens; statement = statement }) (reads (ended section) tokens)
     (ended_shortens section fits tokens)
+
+-- what is left is shorter than what there was
+left_is_shorter : {A : Type 0} (size : ℕ) (outcome : Outcome A) (x : A) (rest : List PlacedLexeme) → Shortens false size outcome → outcome ≡ Read x rest → length rest < size
+left_is_shorter size outcome x rest shortens read = let (less, shorter) = subst (Shortens false size) read shortens in shorter refl
 
 pub placed_is_shorter : (section : Section) → SectionFits section → (tokens rest : List PlacedLexeme) (x : Placed) → read_placed section tokens ≡ Read x rest
     → length rest < length tokens
