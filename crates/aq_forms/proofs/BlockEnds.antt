@@ -1,6 +1,5 @@
 -- What comes behind the statements of a block, where no further statement begins.
-use Rattle.std.proofs.Common.{◌≡◌, ℕ, zero, suc, Bool, true, false, if◌then◌else◌, List, [], ◌∷◌, ◌++◌, flat_map, Option, Some, None, refl, sym, ap, ◌∙◌, subst, codes, append_assoc}
-use Rattle.aq_base.specs.declared.fault.SqlFault.{SqlFault}
+use Rattle.std.proofs.Common.{◌≡◌, ℕ, zero, suc, Bool, true, false, if◌then◌else◌, List, [], ◌∷◌, ◌++◌, flat_map, Some, None, refl, sym, ap, ◌∙◌, subst, codes, append_assoc}
 use Rattle.aq_lex.specs.Lexemes.{PlacedLexeme}
 use Rattle.aq_grammar.specs.Terminals.{Terminal, begin_with}
 use Rattle.aq_grammar.specs.Rules.{Refusal, Rule, Many, refused}
@@ -15,7 +14,7 @@ abbrev pub Ends_block : List PlacedLexeme → Type 0
 Ends_block rest = refused (refused_in_code 0) rest ≡ None
 
 -- with one more refusal before them
-others_none : (refusal : Refusal) (others : List Refusal) (tokens : List PlacedLexeme) → refused (refusal ∷ others) tokens ≡ None → refused others tokens ≡ None
+pub others_none : (refusal : Refusal) (others : List Refusal) (tokens : List PlacedLexeme) → refused (refusal ∷ others) tokens ≡ None → refused others tokens ≡ None
 others_none refusal others tokens e = by_test (begin_with refusal.words tokens) e
   where
     by_test : (b : Bool) → (if b then Some refusal.fault else refused others tokens) ≡ None → refused others tokens ≡ None

@@ -1,5 +1,5 @@
--- The code of a function is printed as tokens that are read as the same code, where no more IFs lie within one another than may.
-use Rattle.std.proofs.Common.{◌≡◌, Bool, false, if◌then◌else◌, ℕ, zero, suc, ◌≤◌, max, true, List, [], ◌∷◌, ◌++◌, flat_map, Option, Some, None, inl, inr, refl, sym, ap, ◌∙◌, subst, codes, append_assoc, arith}
+-- The code of a function is printed as tokens that are read as the same code, where no more IFs and blocks lie within one another than may.
+use Rattle.std.proofs.Common.{◌≡◌, ℕ, zero, suc, ◌≤◌, max, true, List, [], ◌∷◌, ◌++◌, flat_map, Option, Some, None, inl, inr, refl, sym, ap, ◌∙◌, subst, codes, append_assoc, arith}
 use Rattle.std.proofs.lemmas.List.{append-nil}
 use Rattle.std.specs.Prelude.{IsUtf8}
 use Rattle.aq_base.specs.Names.{Text as Bytes}
@@ -7,6 +7,8 @@ use Rattle.aq_base.specs.declared.expr.Expr.{Expr}
 use Rattle.aq_base.specs.declared.body.BodyStatement.{BodyStatement}
 use Rattle.aq_base.specs.declared.body.BodyStatement.TheVariants as bodies
 use Rattle.aq_base.specs.declared.body.ElseIf.{ElseIf}
+use Rattle.aq_base.specs.declared.body.Handler.{Handler}
+use Rattle.aq_base.specs.declared.body.Body.{Body}
 use Rattle.aq_base.specs.declared.body.Returned.{Returned}
 use Rattle.aq_base.specs.declared.body.Returned.TheVariants as returns
 use Rattle.aq_base.specs.declared.data.Insert.{Insert}
@@ -16,27 +18,30 @@ use Rattle.aq_base.specs.declared.modes.SetConstraints.{SetConstraints}
 use Rattle.aq_lex.specs.declared.token.Symbol.TheVariants.{Semicolon, DollarQuote}
 use Rattle.aq_lex.specs.Lexemes.{PlacedLexeme, Lexeme, Word, QuotedName, Integer, Text, Symbol, Directive}
 use Rattle.aq_grammar.specs.declared.scope.Scope.TheVariants.{InCode}
-use Rattle.aq_grammar.specs.Terminals.{Terminal, begin_with, Keyword, Message, Sign, text_is, is_message, text_of, lexeme_text}
-use Rattle.aq_grammar.specs.Rules.{Nonterminal, ValueOf, Rule, Refusal, Token, Both, Either, Many, Call, Block, refused}
+use Rattle.aq_grammar.specs.Terminals.{Terminal, Keyword, Message, Sign, text_is, is_message, text_of, lexeme_text}
+use Rattle.aq_grammar.specs.Rules.{Nonterminal, ValueOf, Rule, Token, Both, Either, Done, Many, Block, refused}
 use Rattle.aq_grammar.specs.Forms.{word, sign, ◌▸◌, ◌◂◌, mapped, says, optional}
 use Rattle.aq_grammar.specs.Nonterminals.{rules}
 use Rattle.aq_grammar.specs.Expressions.{whole_expression}
 use Rattle.aq_grammar.specs.Changes.{insert, update, delete, set_constraints}
-use Rattle.aq_grammar.specs.Bodies.{if_limit, unsupported_statements, refused_in_code, inner_block, branch, else_if, otherwise, if_of, if_statement, raise, return_, body_statement, block, code}
-use Rattle.aq_texts.specs.Written.{Written, say, Literal, Mark}
+use Rattle.aq_grammar.specs.Bodies.{refused_in_code, inner_block, branch, else_if, otherwise, if_of, if_statement, conditions, handler_of, handler, handlers, body_of, body, block_of, raise, return_, body_statement, block, code}
+use Rattle.aq_texts.specs.Written.{Written, say, separated, Literal, Mark}
 use Rattle.aq_texts.specs.Canon as canon
 use Rattle.aq_texts.specs.Canon.{perhaps}
+use Rattle.aq_texts.proofs.Bodies.{raise_is, return_is, insert_is, update_is, delete_is, set_constraints_is}
 use Rattle.aq_forms.proofs.Sound.{IsSound}
 use Rattle.aq_forms.proofs.Laid.{laid, past, laid_append}
-use Rattle.aq_forms.proofs.Derived.{Trees, DerivesEach, DerivesBy, DerivesWithin, Derives}
+use Rattle.aq_forms.proofs.Derived.{Trees, DerivesEach, DerivesBy, DerivesWithin, DerivesSome, Derives}
 use Rattle.aq_forms.proofs.Free.{FreeEach, Free}
-use Rattle.aq_forms.proofs.Combining.{IsFree, Anything, Semicolon_next, Nothing_refused, MayFollow, AreFree, token_free, says_free, word_free, mark_free, both_free, both_any, behind_word, behind_mark, before_free, mapped_free, left_free, right_free, some_free, none_free}
+use Rattle.aq_forms.proofs.Combining.{IsFree, Anything, Semicolon_next, Nothing_refused, MayFollow, AreFree, done_free, token_free, says_free, word_free, mark_free, both_free, both_any, behind_word, behind_mark, before_free, mapped_free, left_free, right_free, some_free, none_free}
 use Rattle.aq_forms.proofs.Expressions.{expression_free}
 use Rattle.aq_forms.proofs.Reading.{called_free}
 use Rattle.aq_forms.proofs.Deriving.{derives_within}
 use Rattle.aq_forms.proofs.Changes.{insert_free, update_free, delete_free, set_constraints_free}
-use Rattle.aq_forms.proofs.BodyForms.{raise_is, return_is, insert_is, update_is, delete_is, set_constraints_is, if_is, if_tokens, else_if_tokens, else_tokens}
-use Rattle.aq_forms.proofs.Depths.{statement_depth, block_depth, branches_depth, perhaps_deep, if_depth}
+use Rattle.aq_forms.proofs.BodyForms.{if_is, if_tokens, else_if_tokens, else_tokens, handler_tokens, handlers_tokens, block_tokens, block_tokens_are, block_is}
+use Rattle.aq_forms.proofs.BlockEnds.{Ends_block, none_in_room, begins_so, each_follow, each_free}
+use Rattle.aq_forms.proofs.Conditions.{conditions_free}
+use Rattle.aq_forms.proofs.Depths.{statement_depth, block_depth, branches_depth, handlers_depth, body_depth, perhaps_deep, if_depth, block_is_deep}
 
 -- A statement of a code: the tokens that it is printed as, which a `;` follows, and that nothing is refused where they begin.
 pub record IsPrinted (room : ℕ) (rule : Rule BodyStatement) (s : BodyStatement) : Type 0 where
@@ -55,7 +60,7 @@ message_is (Integer number) fit sound = cc
 message_is (Symbol symbol) fit sound = cc
 message_is (Directive directive) fit sound = cc
 
--- IF is refused where there is no room for it, and no other statement is
+-- IF and BEGIN are refused where there is no room for them, and no other statement is
 raise_allowed : (room : ℕ) (text : Bytes) → MayFollow (say (codes "RAISE") ∷ say (codes "EXCEPTION") ∷ Literal text ∷ []) Anything (Nothing_refused (refused_in_code room))
 raise_allowed zero text lines at rest behind = refl
 raise_allowed (suc room) text lines at rest behind = refl
@@ -123,30 +128,6 @@ return_printed calls room s (first, inner, said, (what, unit, derived, nothing, 
 
 -- ---- blocks
 
--- no statement begins here: END, ELSIF or ELSE stands behind a block
-abbrev pub Ends_block : List PlacedLexeme → Type 0
-Ends_block rest = refused (refused_in_code 0) rest ≡ None
-
--- with one more refusal before them
-others_none : (refusal : Refusal) (others : List Refusal) (tokens : List PlacedLexeme) → refused (refusal ∷ others) tokens ≡ None → refused others tokens ≡ None
-others_none refusal others tokens e = by_test (begin_with refusal.words tokens) e
-  where
-    by_test : (b : Bool) → (if b then Some refusal.fault else refused others tokens) ≡ None → refused others tokens ≡ None
-    by_test true e = cc
-    by_test false e = e
-
--- where no statement begins, none is refused, however much room there is
-none_in_room : (room : ℕ) (rest : List PlacedLexeme) → Ends_block rest → refused (refused_in_code room) rest ≡ None
-none_in_room zero rest e = e
-none_in_room (suc room) rest e = others_none if_limit unsupported_statements rest e
-
--- what begins so may follow, whatever comes behind it
-pub begins_so :
-    (ws vs : List Written) (First Behind : List PlacedLexeme → Type 0) → MayFollow ws Anything First → MayFollow (ws ++ vs) Behind First
-begins_so ws vs First Behind first lines at rest behind =
-    subst First (sym (ap (λ (tokens : List PlacedLexeme). tokens ++ rest) (laid_append lines at ws vs) ∙ append_assoc (laid lines at ws) (laid lines (past at ws) vs) rest))
-    (first lines at (laid lines (past at ws) vs ++ rest) tt)
-
 abbrev pub ArePrinted : ℕ → List BodyStatement → Type 0
 ArePrinted room [] = Unit {0}
 ArePrinted room (s ∷ others) = IsPrinted room (body_statement room) s × ArePrinted room others
@@ -189,31 +170,6 @@ block_free room xs all lines at rest behind = (xs, statements_free room xs all l
 
 -- ---- what comes behind the first block of an IF
 
--- the branches of an IF, and what may come behind each of them
-branches_follow : (others : List ElseIf) (Behind : List PlacedLexeme → Type 0) → ((rest : List PlacedLexeme) → Behind rest → Ends_block rest)
-    → MayFollow (flat_map else_if_tokens others) Behind Ends_block
-branches_follow [] Behind less lines at rest behind = less rest behind
-branches_follow (first ∷ others) Behind less lines at rest behind = refl
-
-branches_free_at :
-    (a : Rule ElseIf) (xs : List ElseIf) → AreFree a else_if_tokens Ends_block xs → (lines : ℕ → ℕ) (at : ℕ) (rest : List PlacedLexeme) → Ends_block rest
-    → FreeEach [] (Free a) xs (laid lines at (flat_map else_if_tokens xs)) rest
-branches_free_at a [] all lines at rest behind = (refl, refl)
-branches_free_at a (x ∷ others) all lines at rest behind =
-    let after = past at (else_if_tokens x) in (
-      laid lines at (else_if_tokens x),
-      laid lines after (flat_map else_if_tokens others),
-      refl,
-      all.0 lines at (laid lines after (flat_map else_if_tokens others) ++ rest) (branches_follow others Ends_block (λ rest behind. behind) lines after rest behind),
-      branches_free_at a others all.1 lines after rest behind,
-      laid_append lines at (else_if_tokens x) (flat_map else_if_tokens others),
-    )
-
-branches_free :
-    (a : Rule ElseIf) (xs : List ElseIf) → AreFree a else_if_tokens Ends_block xs
-    → IsFree (Many (Keyword (codes "elsif") ∷ []) [] (λ branches. branches) a) xs (flat_map else_if_tokens xs) Ends_block
-branches_free a xs all lines at rest behind = (xs, branches_free_at a xs all lines at rest behind, refl)
-
 else_follows : (last : Option (List BodyStatement)) → MayFollow (perhaps else_tokens last) Ends_block Ends_block
 else_follows None lines at rest behind = behind
 else_follows (Some found) lines at rest behind = refl
@@ -245,13 +201,13 @@ unfolding if_statement
 if_is_deep calls room s (said, inner, _, (condition, (first, (others, last)), _, _, b), a) =
     (max (block_depth first) (max (branches_depth others) (perhaps_deep block_depth last)), ap statement_depth (a ∙ b) ∙ if_depth condition first others last)
 
--- the blocks of a derivation in which so many calls lie within one another are printed freely
-abbrev AreBlocksFree : ℕ → ℕ → Type 0
-AreBlocksFree most room = (xs : List BodyStatement) → DerivesWithin most (Block room) xs → block_depth xs ≤ room → IsFree (rules (Block room)) xs (canon.block xs) Ends_block
+-- the blocks that the calls of a derivation have are printed freely
+abbrev AreBlocksFree : ((n : Nonterminal) → Trees (ValueOf n)) → ℕ → Type 0
+AreBlocksFree calls room = (xs : List BodyStatement) → calls (Block room) xs → block_depth xs ≤ room → IsFree (rules (Block room)) xs (canon.block xs) Ends_block
 
-inner_free : (most room : ℕ) → AreBlocksFree most room → (xs : List BodyStatement) → DerivesBy (DerivesWithin most) (inner_block (suc room)) xs → block_depth xs ≤ room
+inner_free : (calls : (n : Nonterminal) → Trees (ValueOf n)) (room : ℕ) → AreBlocksFree calls room → (xs : List BodyStatement) → DerivesBy calls (inner_block (suc room)) xs → block_depth xs ≤ room
     → IsFree (inner_block (suc room)) xs (canon.block xs) Ends_block
-inner_free most room free xs (own, derived, e) few =
+inner_free calls room free xs (own, derived, e) few =
     subst (λ (xs : List BodyStatement). IsFree (inner_block (suc room)) xs (canon.block xs) Ends_block) (sym e)
     (called_free (Block room) (λ statements. statements) own (canon.block own) Ends_block
     (free own derived (subst (λ (xs : List BodyStatement). block_depth xs ≤ room) e few)))
@@ -260,7 +216,7 @@ condition_free : (most : ℕ) (e : Expr) (Behind : List PlacedLexeme → Type 0)
     → IsFree (whole_expression InCode) e (canon.expression e) Behind
 condition_free most e Behind derived = expression_free InCode e Behind (derives_within most (whole_expression InCode) e derived)
 
-else_if_free : (most room : ℕ) → AreBlocksFree most room → (x : ElseIf) → DerivesBy (DerivesWithin most) (else_if (suc room)) x → block_depth x.then ≤ room
+else_if_free : (most room : ℕ) → AreBlocksFree (DerivesWithin most) room → (x : ElseIf) → DerivesBy (DerivesWithin most) (else_if (suc room)) x → block_depth x.then ≤ room
     → IsFree (else_if (suc room)) x (else_if_tokens x) Ends_block
 unfolding else_if
 else_if_free most room free x (first, inner, said, (condition, statements, derived, (second, found, also_said, block_derived, c), b), a) few =
@@ -271,16 +227,16 @@ else_if_free most room free x (first, inner, said, (condition, statements, deriv
     (both_any branch (whole_expression InCode) (word (codes "then") ▸ inner_block (suc room)) condition statements (canon.expression condition)
     (say (codes "THEN") ∷ canon.block statements) Ends_block (condition_free most condition Anything derived)
     (behind_word (codes "THEN") (codes "then") (inner_block (suc room)) statements (canon.block statements) Ends_block refl refl
-    (inner_free most room free statements (subst (λ (xs : List BodyStatement). DerivesBy (DerivesWithin most) (inner_block (suc room)) xs) (sym c) block_derived)
+    (inner_free (DerivesWithin most) room free statements (subst (λ (xs : List BodyStatement). DerivesBy (DerivesWithin most) (inner_block (suc room)) xs) (sym c) block_derived)
     (subst (λ (x : ElseIf). block_depth x.then ≤ room) e few)))))
 
-else_ifs_free : (most room : ℕ) → AreBlocksFree most room → (xs : List ElseIf) → DerivesEach (DerivesBy (DerivesWithin most) (else_if (suc room))) xs
+else_ifs_free : (most room : ℕ) → AreBlocksFree (DerivesWithin most) room → (xs : List ElseIf) → DerivesEach (DerivesBy (DerivesWithin most) (else_if (suc room))) xs
     → branches_depth xs ≤ room → AreFree (else_if (suc room)) else_if_tokens Ends_block xs
 else_ifs_free most room free [] all few = tt
 else_ifs_free most room free (x ∷ others) all few =
     (else_if_free most room free x all.0 (omega arith), else_ifs_free most room free others all.1 (omega arith))
 
-otherwise_free : (most room : ℕ) → AreBlocksFree most room → (last : Option (List BodyStatement)) → DerivesBy (DerivesWithin most) (otherwise (suc room)) last
+otherwise_free : (most room : ℕ) → AreBlocksFree (DerivesWithin most) room → (last : Option (List BodyStatement)) → DerivesBy (DerivesWithin most) (otherwise (suc room)) last
     → perhaps_deep block_depth last ≤ room → IsFree (otherwise (suc room)) last (perhaps else_tokens last) Ends_block
 unfolding otherwise
 otherwise_free most room free last (inl (statements, unit, (first, found, said, derived, b), nothing, a)) few =
@@ -288,7 +244,7 @@ otherwise_free most room free last (inl (statements, unit, (first, found, said, 
     subst (λ (last : Option (List BodyStatement)). IsFree (otherwise (suc room)) last (perhaps else_tokens last) Ends_block) (sym e)
     (some_free (Keyword (codes "else") ∷ []) (word (codes "else") ▸ inner_block (suc room)) found (else_tokens found) Ends_block
     (behind_word (codes "ELSE") (codes "else") (inner_block (suc room)) found (canon.block found) Ends_block refl refl
-    (inner_free most room free found derived (subst (λ (last : Option (List BodyStatement)). perhaps_deep block_depth last ≤ room) e few))))
+    (inner_free (DerivesWithin most) room free found derived (subst (λ (last : Option (List BodyStatement)). perhaps_deep block_depth last ≤ room) e few))))
 otherwise_free most room free last (inr e) few =
     subst (λ (last : Option (List BodyStatement)). IsFree (otherwise (suc room)) last (perhaps else_tokens last) Ends_block) (sym e)
     (none_free (Keyword (codes "else") ∷ []) (word (codes "else") ▸ inner_block (suc room)) Ends_block)
@@ -304,11 +260,11 @@ end_free room others last Behind branches_are last_is =
     (before_free (parts room ◂ word (codes "end")) (word (codes "if")) (and_else others last) tt (ws ++ say (codes "END") ∷ []) (say (codes "IF") ∷ []) Anything Behind
     (before_free (parts room) (word (codes "end")) (and_else others last) tt ws (say (codes "END") ∷ []) Ends_block Anything
     (both_free and_else (Many (Keyword (codes "elsif") ∷ []) [] (λ branches. branches) (else_if room)) (otherwise room) others last
-    (flat_map else_if_tokens others) (perhaps else_tokens last) Ends_block Ends_block (branches_free (else_if room) others branches_are) last_is (else_follows last))
+    (flat_map else_if_tokens others) (perhaps else_tokens last) Ends_block Ends_block (each_free (else_if room) else_if_tokens (λ branch ws lines at rest behind. refl) (Keyword (codes "elsif") ∷ []) others branches_are) last_is (else_follows last))
     (word_free (codes "END") (codes "end") Anything refl refl) (λ lines at rest behind. refl))
     (word_free (codes "IF") (codes "if") Behind refl refl) (λ lines at rest behind. tt))
 
-if_tokens_free : (most room : ℕ) → AreBlocksFree most room → (condition : Expr) (first : List BodyStatement) (others : List ElseIf) (last : Option (List BodyStatement))
+if_tokens_free : (most room : ℕ) → AreBlocksFree (DerivesWithin most) room → (condition : Expr) (first : List BodyStatement) (others : List ElseIf) (last : Option (List BodyStatement))
     → DerivesBy (DerivesWithin most) (whole_expression InCode) condition → DerivesBy (DerivesWithin most) (inner_block (suc room)) first
     → DerivesEach (DerivesBy (DerivesWithin most) (else_if (suc room))) others → DerivesBy (DerivesWithin most) (otherwise (suc room)) last
     → suc (max (block_depth first) (max (branches_depth others) (perhaps_deep block_depth last))) ≤ suc room
@@ -324,12 +280,12 @@ if_tokens_free most room free condition first others last condition_derived firs
     (behind_word (codes "THEN") (codes "then") (Both with_ending (inner_block (suc room)) (ending (suc room))) (with_ending first (and_else others last))
     (canon.block first ++ end_tokens others last) Semicolon_next refl refl
     (both_free with_ending (inner_block (suc room)) (ending (suc room)) first (and_else others last) (canon.block first) (end_tokens others last) Ends_block Semicolon_next
-    (inner_free most room free first first_derived (omega arith))
+    (inner_free (DerivesWithin most) room free first first_derived (omega arith))
     (end_free (suc room) others last Semicolon_next (else_ifs_free most room free others others_derived (omega arith))
     (otherwise_free most room free last last_derived (omega arith)))
     (end_follows others last Semicolon_next))))
 
-if_printed : (most room : ℕ) → AreBlocksFree most room → (s : BodyStatement) → DerivesBy (DerivesWithin most) (if_statement (suc room)) s → statement_depth s ≤ suc room
+if_printed : (most room : ℕ) → AreBlocksFree (DerivesWithin most) room → (s : BodyStatement) → DerivesBy (DerivesWithin most) (if_statement (suc room)) s → statement_depth s ≤ suc room
     → IsPrinted (suc room) (if_statement (suc room)) s
 unfolding if_statement
 if_printed most room free s (said, inner, _, (condition, parts, condition_derived, (said_then, parts_too, _, (first, ended, first_derived, (ended_too, said_if, (ended_last, said_end, (others, last, (own, own_derived, h), last_derived, g), _, f), _, e), d), c), b), a) few =
@@ -349,12 +305,100 @@ if_printed most room free s (said, inner, _, (condition, parts, condition_derive
     }
 
 -- no IF stands where there is no room
-if_in_room : (most room : ℕ) → ((less : ℕ) → AreBlocksFree most less) → (s : BodyStatement) → DerivesBy (DerivesWithin most) (if_statement room) s
+if_in_room : (most room : ℕ) → ((less : ℕ) → AreBlocksFree (DerivesWithin most) less) → (s : BodyStatement) → DerivesBy (DerivesWithin most) (if_statement room) s
     → statement_depth s ≤ room → IsPrinted room (if_statement room) s
 if_in_room most (suc room) free s derived few = if_printed most room (free room) s derived few
 if_in_room most zero free s derived few =
     let deep = if_is_deep (DerivesWithin most) zero s derived in
     let depth : statement_depth s ≡ suc deep.0 = deep.1 in
+    absurd (omega arith)
+
+-- ---- blocks with their handlers
+
+handler_free : (calls : (n : Nonterminal) → Trees (ValueOf n)) (room : ℕ) → AreBlocksFree calls room → (h : Handler) → DerivesBy calls (handler (suc room)) h → block_depth h.statements ≤ room
+    → IsFree (handler (suc room)) h (handler_tokens h) Ends_block
+unfolding handler
+handler_free calls room free h (first, inner, said, (found, statements, derived, (second, own, also_said, block_derived, c), b), a) few =
+    let e : h ≡ handler_of found statements = a ∙ b in
+    subst (λ (h : Handler). IsFree (handler (suc room)) h (handler_tokens h) Ends_block) (sym e)
+    (behind_word (codes "WHEN") (codes "when") (Both handler_of conditions (word (codes "then") ▸ inner_block (suc room))) (handler_of found statements)
+    (separated (say (codes "OR")) canon.condition found ++ say (codes "THEN") ∷ canon.block statements) Ends_block refl refl
+    (both_any handler_of conditions (word (codes "then") ▸ inner_block (suc room)) found statements (separated (say (codes "OR")) canon.condition found)
+    (say (codes "THEN") ∷ canon.block statements) Ends_block (conditions_free calls found Anything derived)
+    (behind_word (codes "THEN") (codes "then") (inner_block (suc room)) statements (canon.block statements) Ends_block refl refl
+    (inner_free calls room free statements (subst (λ (xs : List BodyStatement). DerivesBy calls (inner_block (suc room)) xs) (sym c) block_derived)
+    (subst (λ (h : Handler). block_depth h.statements ≤ room) e few)))))
+
+each_handler_free : (calls : (n : Nonterminal) → Trees (ValueOf n)) (room : ℕ) → AreBlocksFree calls room → (xs : List Handler) → DerivesEach (DerivesBy calls (handler (suc room))) xs
+    → handlers_depth xs ≤ room → AreFree (handler (suc room)) handler_tokens Ends_block xs
+each_handler_free calls room free [] all few = tt
+each_handler_free calls room free (h ∷ others) all few =
+    (handler_free calls room free h all.0 (omega arith), each_handler_free calls room free others all.1 (omega arith))
+
+handlers_free : (calls : (n : Nonterminal) → Trees (ValueOf n)) (room : ℕ) → AreBlocksFree calls room → (xs : List Handler) → DerivesBy calls (handlers (suc room)) xs → handlers_depth xs ≤ room
+    → IsFree (handlers (suc room)) xs (handlers_tokens xs) Ends_block
+unfolding handlers
+handlers_free calls room free xs (inl (said, inner, _, (first, others, first_derived, (own, all, c), b), a)) few =
+    let more : Rule (List Handler) = Many (Keyword (codes "when") ∷ []) [] (λ others. others) (handler (suc room)) in
+    let e : xs ≡ first ∷ own = a ∙ (b ∙ ap (λ (others : List Handler). first ∷ others) c) in
+    let so : handlers_depth (first ∷ own) ≤ room = subst (λ (xs : List Handler). handlers_depth xs ≤ room) e few in
+    subst (λ (xs : List Handler). IsFree (handlers (suc room)) xs (handlers_tokens xs) Ends_block) (sym e)
+    (left_free (Keyword (codes "exception") ∷ []) (word (codes "exception") ▸ Both (λ first others. first ∷ others) (handler (suc room)) more) (Done []) (first ∷ own)
+    (handlers_tokens (first ∷ own)) Ends_block
+    (behind_word (codes "EXCEPTION") (codes "exception") (Both (λ first others. first ∷ others) (handler (suc room)) more) (first ∷ own)
+    (handler_tokens first ++ flat_map handler_tokens own) Ends_block refl refl
+    (both_free (λ first others. first ∷ others) (handler (suc room)) more first own (handler_tokens first) (flat_map handler_tokens own) Ends_block Ends_block
+    (handler_free calls room free first first_derived (omega arith))
+    (each_free (handler (suc room)) handler_tokens (λ h ws lines at rest behind. refl) (Keyword (codes "when") ∷ []) own
+    (each_handler_free calls room free own all (omega arith)))
+    (each_follow (handler (suc room)) handler_tokens (λ h ws lines at rest behind. refl) own))))
+handlers_free calls room free xs (inr e) few =
+    let more : Rule (List Handler) = Many (Keyword (codes "when") ∷ []) [] (λ others. others) (handler (suc room)) in
+    subst (λ (xs : List Handler). IsFree (handlers (suc room)) xs (handlers_tokens xs) Ends_block) (sym e)
+    (right_free (Keyword (codes "exception") ∷ []) (word (codes "exception") ▸ Both (λ first others. first ∷ others) (handler (suc room)) more) (Done []) [] [] Ends_block
+    (done_free [] Ends_block))
+
+handlers_follow : (xs : List Handler) → MayFollow (handlers_tokens xs) Ends_block Ends_block
+handlers_follow [] lines at rest behind = behind
+handlers_follow (first ∷ others) lines at rest behind = refl
+
+body_free : (calls : (n : Nonterminal) → Trees (ValueOf n)) (room : ℕ) → AreBlocksFree calls room → (b : Body) (Behind : List PlacedLexeme → Type 0) → DerivesBy calls (body (suc room)) b
+    → body_depth b ≤ suc room → IsFree (body (suc room)) b (block_tokens b.statements b.handlers) Behind
+unfolding body
+body_free calls room free b Behind (said, inner, _, (own, _, (statements, found, statements_derived, found_derived, e2), _, e1), e0) few =
+    let e : b ≡ body_of statements found = e0 ∙ (e1 ∙ e2) in
+    let so : body_depth (body_of statements found) ≤ suc room = subst (λ (b : Body). body_depth b ≤ suc room) e few in
+    let parts : Rule Body = Both body_of (inner_block (suc room)) (handlers (suc room)) in
+    let same : (canon.block statements ++ handlers_tokens found) ++ say (codes "END") ∷ [] ≡ canon.block statements ++ (handlers_tokens found ++ say (codes "END") ∷ []) =
+    append_assoc (canon.block statements) (handlers_tokens found) (say (codes "END") ∷ []) in
+    subst (λ (b : Body). IsFree (body (suc room)) b (block_tokens b.statements b.handlers) Behind) (sym e)
+    (behind_word (codes "BEGIN") (codes "begin") (parts ◂ word (codes "end")) (body_of statements found)
+    (canon.block statements ++ (handlers_tokens found ++ say (codes "END") ∷ [])) Behind refl refl
+    (subst (λ (tokens : List Written). IsFree (parts ◂ word (codes "end")) (body_of statements found) tokens Behind) same
+    (before_free parts (word (codes "end")) (body_of statements found) tt (canon.block statements ++ handlers_tokens found) (say (codes "END") ∷ []) Ends_block Behind
+    (both_free body_of (inner_block (suc room)) (handlers (suc room)) statements found (canon.block statements) (handlers_tokens found) Ends_block Ends_block
+    (inner_free calls room free statements statements_derived (omega arith)) (handlers_free calls room free found found_derived (omega arith)) (handlers_follow found))
+    (word_free (codes "END") (codes "end") Behind refl refl) (λ lines at rest behind. refl))))
+
+block_printed : (calls : (n : Nonterminal) → Trees (ValueOf n)) (room : ℕ) → AreBlocksFree calls room → (s : BodyStatement) → DerivesBy calls (mapped block_of (body (suc room))) s
+    → statement_depth s ≤ suc room → IsPrinted (suc room) (mapped block_of (body (suc room))) s
+block_printed calls room free s (b, _, derived, _, e) few =
+    let depth : statement_depth s ≡ body_depth b = ap statement_depth e ∙ block_is_deep b.statements b.handlers in
+    record {
+      tokens = block_tokens b.statements b.handlers;
+      is = ap canon.body_statement e ∙ block_is b.statements b.handlers;
+      free = subst (λ (s : BodyStatement). IsFree (mapped block_of (body (suc room))) s (block_tokens b.statements b.handlers) Semicolon_next) (sym e)
+          (mapped_free block_of (body (suc room)) b (block_tokens b.statements b.handlers) Semicolon_next
+          (body_free calls room free b Semicolon_next derived (subst (λ (depth : ℕ). depth ≤ suc room) depth few)));
+      allowed = λ lines at rest behind. refl;
+    }
+
+-- no block stands where there is no room
+block_in_room : (most room : ℕ) → ((less : ℕ) → AreBlocksFree (DerivesWithin most) less) → (s : BodyStatement) → DerivesBy (DerivesWithin most) (mapped block_of (body room)) s
+    → statement_depth s ≤ room → IsPrinted room (mapped block_of (body room)) s
+block_in_room most (suc room) free s derived few = block_printed (DerivesWithin most) room (free room) s derived few
+block_in_room most zero free s (b, _, derived, _, e) few =
+    let depth : statement_depth s ≡ suc (max (block_depth b.statements) (handlers_depth b.handlers)) = ap statement_depth e ∙ block_is_deep b.statements b.handlers in
     absurd (omega arith)
 
 -- a statement that is a data statement too
@@ -395,28 +439,25 @@ to_right : (room : ℕ) (kinds : List Terminal) (a b : Rule BodyStatement) (s : 
 to_right room kinds a b s printed =
     record { tokens = printed.tokens; is = printed.is; free = right_free kinds a b s printed.tokens Semicolon_next printed.free; allowed = printed.allowed }
 
-statement_printed : (most room : ℕ) → ((less : ℕ) → AreBlocksFree most less) → (s : BodyStatement) → DerivesBy (DerivesWithin most) (body_statement room) s
+statement_printed : (most room : ℕ) → ((less : ℕ) → AreBlocksFree (DerivesWithin most) less) → (s : BodyStatement) → DerivesBy (DerivesWithin most) (body_statement room) s
     → statement_depth s ≤ room → IsPrinted room (body_statement room) s
 unfolding body_statement
 statement_printed most room free s (inl derived) few = to_left room _ _ _ s (if_in_room most room free s derived few)
-statement_printed most room free s (inr (inl derived)) few = to_right room _ _ _ s (to_left room _ _ _ s (raise_printed (DerivesWithin most) room s derived))
+statement_printed most room free s (inr (inl derived)) few = to_right room _ _ _ s (to_left room _ _ _ s (block_in_room most room free s derived few))
 statement_printed most room free s (inr (inr (inl derived))) few =
-    to_right room _ _ _ s (to_right room _ _ _ s (to_left room _ _ _ s (return_printed (DerivesWithin most) room s derived)))
+    to_right room _ _ _ s (to_right room _ _ _ s (to_left room _ _ _ s (raise_printed (DerivesWithin most) room s derived)))
 statement_printed most room free s (inr (inr (inr (inl derived)))) few =
-    to_right room _ _ _ s (to_right room _ _ _ s (to_right room _ _ _ s (to_left room _ _ _ s
-    (as_printed Insert room bodies.Insert (insert InCode) canon.insert insert_is (insert_allowed room) most (insert_free InCode) s derived))))
+    to_right room _ _ _ s (to_right room _ _ _ s (to_right room _ _ _ s (to_left room _ _ _ s (return_printed (DerivesWithin most) room s derived))))
 statement_printed most room free s (inr (inr (inr (inr (inl derived))))) few =
-    to_right room _ _ _ s (to_right room _ _ _ s (to_right room _ _ _ s (to_right room _ _ _ s (to_left room _ _ _ s
-    (as_printed Update room bodies.Update (update InCode) canon.update update_is (update_allowed room) most (update_free InCode) s derived)))))
+    to_right room _ _ _ s (to_right room _ _ _ s (to_right room _ _ _ s (to_right room _ _ _ s (to_left room _ _ _ s (as_printed Insert room bodies.Insert (insert InCode) canon.insert insert_is (insert_allowed room) most (insert_free InCode) s derived)))))
 statement_printed most room free s (inr (inr (inr (inr (inr (inl derived)))))) few =
-    to_right room _ _ _ s (to_right room _ _ _ s (to_right room _ _ _ s (to_right room _ _ _ s (to_right room _ _ _ s (to_left room _ _ _ s
-    (as_printed Delete room bodies.Delete (delete InCode) canon.delete delete_is (delete_allowed room) most (delete_free InCode) s derived))))))
-statement_printed most room free s (inr (inr (inr (inr (inr (inr derived)))))) few =
-    to_right room _ _ _ s (to_right room _ _ _ s (to_right room _ _ _ s (to_right room _ _ _ s (to_right room _ _ _ s (to_right room _ _ _ s
-    (as_printed SetConstraints room bodies.SetConstraints set_constraints canon.set_constraints set_constraints_is (set_allowed room) most
-    (set_constraints_free Semicolon_next) s derived))))))
+    to_right room _ _ _ s (to_right room _ _ _ s (to_right room _ _ _ s (to_right room _ _ _ s (to_right room _ _ _ s (to_left room _ _ _ s (as_printed Update room bodies.Update (update InCode) canon.update update_is (update_allowed room) most (update_free InCode) s derived))))))
+statement_printed most room free s (inr (inr (inr (inr (inr (inr (inl derived))))))) few =
+    to_right room _ _ _ s (to_right room _ _ _ s (to_right room _ _ _ s (to_right room _ _ _ s (to_right room _ _ _ s (to_right room _ _ _ s (to_left room _ _ _ s (as_printed Delete room bodies.Delete (delete InCode) canon.delete delete_is (delete_allowed room) most (delete_free InCode) s derived)))))))
+statement_printed most room free s (inr (inr (inr (inr (inr (inr (inr derived))))))) few =
+    to_right room _ _ _ s (to_right room _ _ _ s (to_right room _ _ _ s (to_right room _ _ _ s (to_right room _ _ _ s (to_right room _ _ _ s (to_right room _ _ _ s (as_printed SetConstraints room bodies.SetConstraints set_constraints canon.set_constraints set_constraints_is (set_allowed room) most (set_constraints_free Semicolon_next) s derived)))))))
 
-statements_printed : (most room : ℕ) → ((less : ℕ) → AreBlocksFree most less) → (xs : List BodyStatement)
+statements_printed : (most room : ℕ) → ((less : ℕ) → AreBlocksFree (DerivesWithin most) less) → (xs : List BodyStatement)
     → DerivesEach (DerivesBy (DerivesWithin most) (body_statement room ◂ sign Semicolon)) xs → block_depth xs ≤ room → ArePrinted room xs
 statements_printed most room free [] all few = tt
 statements_printed most room free (s ∷ others) ((own, _, derived, _, e), all) few =
@@ -425,7 +466,7 @@ statements_printed most room free (s ∷ others) ((own, _, derived, _, e), all) 
       statements_printed most room free others all (omega arith),
     )
 
-blocks_free : (most room : ℕ) → AreBlocksFree most room
+blocks_free : (most room : ℕ) → AreBlocksFree (DerivesWithin most) room
 unfolding rules block
 blocks_free zero room xs derived few = absurd derived
 blocks_free (suc most) room xs (own, all, e) few =
@@ -433,27 +474,23 @@ blocks_free (suc most) room xs (own, all, e) few =
     (block_free room own (statements_printed most room (λ less. blocks_free most less) own all (subst (λ (xs : List BodyStatement). block_depth xs ≤ room) e few)))
 
 -- `$$ BEGIN` and `END $$`, with no `;`
-pub code_free : (xs : List BodyStatement) (Behind : List PlacedLexeme → Type 0) → Derives code xs → block_depth xs ≤ 100
-    → IsFree code xs (Mark DollarQuote ∷ say (codes "BEGIN") ∷ (canon.block xs ++ say (codes "END") ∷ Mark DollarQuote ∷ [])) Behind
+pub code_free : (b : Body) (Behind : List PlacedLexeme → Type 0) → Derives code b → body_depth b ≤ 100
+    → IsFree code b (Mark DollarQuote ∷ (canon.body b ++ Mark DollarQuote ∷ [])) Behind
 unfolding code
-code_free xs Behind (_, a, _, (_, b, _, (c, _, (d, _, (f, _, (own, (most, derived), g), _, e4), _, e3), _, e2), e1), e0) few =
-    let e : xs ≡ own = e0 ∙ (e1 ∙ (e2 ∙ (e3 ∙ (e4 ∙ g)))) in
-    let statements = canon.block own in
-    let inner : Rule (List BodyStatement) = Call (Block 100) (λ statements. statements) in
-    let same : ((statements ++ say (codes "END") ∷ []) ++ []) ++ Mark DollarQuote ∷ [] ≡ statements ++ say (codes "END") ∷ Mark DollarQuote ∷ [] =
-    simp (append-nil, append_assoc) in
-    subst (λ (xs : List BodyStatement). IsFree code xs (Mark DollarQuote ∷ say (codes "BEGIN") ∷ (canon.block xs ++ say (codes "END") ∷ Mark DollarQuote ∷ [])) Behind) (sym e)
-    (behind_mark DollarQuote (word (codes "begin") ▸ (inner ◂ word (codes "end") ◂ optional (Sign Semicolon ∷ []) (sign Semicolon) ◂ sign DollarQuote)) own
-    (say (codes "BEGIN") ∷ (statements ++ say (codes "END") ∷ Mark DollarQuote ∷ [])) Behind
-    (behind_word (codes "BEGIN") (codes "begin") (inner ◂ word (codes "end") ◂ optional (Sign Semicolon ∷ []) (sign Semicolon) ◂ sign DollarQuote) own
-    (statements ++ say (codes "END") ∷ Mark DollarQuote ∷ []) Behind refl refl
-    (subst (λ (tokens : List Written). IsFree (inner ◂ word (codes "end") ◂ optional (Sign Semicolon ∷ []) (sign Semicolon) ◂ sign DollarQuote) own tokens Behind) same
-    (before_free (inner ◂ word (codes "end") ◂ optional (Sign Semicolon ∷ []) (sign Semicolon)) (sign DollarQuote) own tt
-    ((statements ++ say (codes "END") ∷ []) ++ []) (Mark DollarQuote ∷ []) Anything Behind
-    (before_free (inner ◂ word (codes "end")) (optional (Sign Semicolon ∷ []) (sign Semicolon)) own None (statements ++ say (codes "END") ∷ []) [] Anything Anything
-    (before_free inner (word (codes "end")) own tt statements (say (codes "END") ∷ []) Ends_block Anything
-    (called_free (Block 100) (λ statements. statements) own statements Ends_block
-    (blocks_free most 100 own derived (subst (λ (xs : List BodyStatement). block_depth xs ≤ 100) e few)))
-    (word_free (codes "END") (codes "end") Anything refl refl) (λ lines at rest behind. refl))
+code_free b Behind (_, _, _, (_, _, (own, _, derived, _, e2), _, e1), e0) few =
+    let e : b ≡ own = e0 ∙ (e1 ∙ e2) in
+    let tokens = block_tokens own.statements own.handlers in
+    let ended : Rule Body = body 100 ◂ optional (Sign Semicolon ∷ []) (sign Semicolon) in
+    let same : (tokens ++ []) ++ Mark DollarQuote ∷ [] ≡ canon.body own ++ Mark DollarQuote ∷ [] =
+    ap (λ (found : List Written). found ++ Mark DollarQuote ∷ []) (append-nil tokens ∙ sym (block_tokens_are own.statements own.handlers)) in
+    subst (λ (b : Body). IsFree code b (Mark DollarQuote ∷ (canon.body b ++ Mark DollarQuote ∷ [])) Behind) (sym e)
+    (behind_mark DollarQuote (ended ◂ sign DollarQuote) own (canon.body own ++ Mark DollarQuote ∷ []) Behind
+    (subst (λ (found : List Written). IsFree (ended ◂ sign DollarQuote) own found Behind) same
+    (before_free ended (sign DollarQuote) own tt (tokens ++ []) (Mark DollarQuote ∷ []) Anything Behind
+    (before_free (body 100) (optional (Sign Semicolon ∷ []) (sign Semicolon)) own None tokens [] Anything Anything
+    (own_free own derived (subst (λ (b : Body). body_depth b ≤ 100) e few))
     (none_free (Sign Semicolon ∷ []) (sign Semicolon) Anything) (λ lines at rest behind. tt))
-    (mark_free DollarQuote Behind) (λ lines at rest behind. tt)))))
+    (mark_free DollarQuote Behind) (λ lines at rest behind. tt))))
+  where
+    own_free : (own : Body) → Derives (body 100) own → body_depth own ≤ 100 → IsFree (body 100) own (block_tokens own.statements own.handlers) Anything
+    own_free own derived few = body_free DerivesSome 99 (λ xs some few. blocks_free some.0 99 xs some.1 few) own Anything derived few

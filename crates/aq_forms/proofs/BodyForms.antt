@@ -1,5 +1,5 @@
 -- How an IF and a block of a code are printed, by the tokens of their parts.
-use Rattle.std.proofs.Common.{◌≡◌, List, [], ◌∷◌, ◌++◌, Option, Some, None, map, flat_map, refl, ap, ap₂, ◌∙◌, codes}
+use Rattle.std.proofs.Common.{◌≡◌, List, [], ◌∷◌, ◌++◌, Option, map, flat_map, refl, ap, ap₂, ◌∙◌, codes}
 use Rattle.aq_base.specs.declared.expr.Expr.{Expr}
 use Rattle.aq_base.specs.declared.body.BodyStatement.{BodyStatement}
 use Rattle.aq_base.specs.declared.body.BodyStatement.TheVariants.{If, Block}
@@ -38,21 +38,27 @@ handlers_are [] = refl
 handlers_are (first ∷ others) = ap₂ (λ (x : List Written) (y : List (List Written)). x ∷ y) (texts.handler_is first) (handlers_are others)
 
 -- EXCEPTION and one handler after the other
-pub exception_is : (first : Handler) (others : List Handler)
-    → exception (map handler_tokens (first ∷ others)) ≡ say (codes "EXCEPTION") ∷ (handler_tokens first ++ flat_map handler_tokens others)
-exception_is first others = ap (λ (tokens : List Written). say (codes "EXCEPTION") ∷ (handler_tokens first ++ tokens)) (one_by_one others)
+abbrev pub handlers_tokens : List Handler → List Written
+handlers_tokens [] = []
+handlers_tokens (first ∷ others) = say (codes "EXCEPTION") ∷ (handler_tokens first ++ flat_map handler_tokens others)
+
+exception_is : (handlers : List Handler) → exception (map handler_tokens handlers) ≡ handlers_tokens handlers
+exception_is [] = refl
+exception_is (first ∷ others) = ap (λ (tokens : List Written). say (codes "EXCEPTION") ∷ (handler_tokens first ++ tokens)) (one_by_one others)
   where
     one_by_one : (handlers : List Handler) → flat_map (λ (tokens : List Written). tokens) (map handler_tokens handlers) ≡ flat_map handler_tokens handlers
     one_by_one [] = refl
     one_by_one (first ∷ others) = ap (λ (tokens : List Written). handler_tokens first ++ tokens) (one_by_one others)
 
 abbrev pub block_tokens : List BodyStatement → List Handler → List Written
-block_tokens statements handlers = begin_end (block statements) (exception (map handler_tokens handlers))
+block_tokens statements handlers = begin_end (block statements) (handlers_tokens handlers)
 
 -- the tokens of a block, as a statement and as the body of a function
 pub block_tokens_are : (statements : List BodyStatement) (handlers : List Handler)
     → begin_end (block statements) (exception (map handler handlers)) ≡ block_tokens statements handlers
-block_tokens_are statements handlers = ap (λ (found : List (List Written)). begin_end (block statements) (exception found)) (handlers_are handlers)
+block_tokens_are statements handlers =
+    ap (λ (found : List Written). begin_end (block statements) found)
+    (ap (λ (found : List (List Written)). exception found) (handlers_are handlers) ∙ exception_is handlers)
 
 pub block_is : (statements : List BodyStatement) (handlers : List Handler) → body_statement (Block statements handlers) ≡ block_tokens statements handlers
 block_is statements handlers = texts.block_is statements handlers ∙ block_tokens_are statements handlers

@@ -1,11 +1,10 @@
 -- The conditions of a handler are printed as tokens that are read as the same conditions.
-use Rattle.std.proofs.Common.{◌≡◌, true, List, [], ◌∷◌, ◌++◌, flat_map, inl, inr, refl, sym, ap, ◌∙◌, subst, codes}
+use Rattle.std.proofs.Common.{◌≡◌, List, [], ◌∷◌, ◌++◌, flat_map, inl, inr, refl, sym, ap, ◌∙◌, subst, codes}
 use Rattle.std.proofs.lemmas.List.{append-nil}
 use Rattle.aq_base.specs.declared.body.Condition.{Condition}
 use Rattle.aq_base.specs.declared.body.Condition.TheVariants.{SqlState}
-use Rattle.aq_lex.specs.Lexemes.{PlacedLexeme}
 use Rattle.aq_grammar.specs.Terminals.{Keyword, StateCode, is_state_code, text_of}
-use Rattle.aq_grammar.specs.Rules.{Nonterminal, ValueOf, Rule, Token, Both, Many}
+use Rattle.aq_grammar.specs.Rules.{Nonterminal, ValueOf, Many}
 use Rattle.aq_grammar.specs.Forms.{word, ◌▸◌}
 use Rattle.aq_grammar.specs.Bodies.{condition, conditions}
 use Rattle.aq_texts.specs.Written.{Written, say, Literal, separated}

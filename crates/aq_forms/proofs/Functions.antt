@@ -1,7 +1,7 @@
 -- CREATE FUNCTION is printed as tokens that are read as the same function.
 use Rattle.std.proofs.Common.{◌≡◌, ◌≤◌, List, [], ◌∷◌, ◌++◌, inl, inr, refl, sym, ap, ◌∙◌, subst, codes}
 use Rattle.aq_base.specs.Names.{Text as Bytes}
-use Rattle.aq_base.specs.declared.body.BodyStatement.{BodyStatement}
+use Rattle.aq_base.specs.declared.body.Body.{Body}
 use Rattle.aq_base.specs.declared.statement.Statement.{Statement}
 use Rattle.aq_base.specs.declared.statement.Statement.TheVariants.{CreateFunction}
 use Rattle.aq_lex.specs.declared.token.Symbol.TheVariants.{OpenParen, CloseParen, DollarQuote}
@@ -16,7 +16,7 @@ use Rattle.aq_texts.specs.Canon as canon
 use Rattle.aq_forms.proofs.Derived.{DerivesSome, Derives}
 use Rattle.aq_forms.proofs.Combining.{IsFree, Anything, word_free, mark_free, call_free, both_any, then_free, behind_word, before_free, left_free}
 use Rattle.aq_forms.proofs.Names.{IsNamed, public_named, public_free}
-use Rattle.aq_forms.proofs.Depths.{block_depth, HasRoom}
+use Rattle.aq_forms.proofs.Depths.{body_depth, HasRoom}
 use Rattle.aq_forms.proofs.Bodies.{code_free}
 
 -- a statement behind the word CREATE: the tokens that it is printed as
@@ -30,10 +30,10 @@ unfolding no_arguments
 no_arguments_free Behind =
     then_free (sign OpenParen) (sign CloseParen) tt tt (Call ∷ []) (Mark CloseParen ∷ []) Behind (call_free Anything) (mark_free CloseParen Behind)
 
-code_tokens : List BodyStatement → List Written
-code_tokens body = Mark DollarQuote ∷ say (codes "BEGIN") ∷ (canon.block body ++ say (codes "END") ∷ Mark DollarQuote ∷ [])
+code_tokens : Body → List Written
+code_tokens body = Mark DollarQuote ∷ (canon.body body ++ Mark DollarQuote ∷ [])
 
-function_of : Bytes → List BodyStatement → Statement
+function_of : Bytes → Body → Statement
 function_of name body = CreateFunction (record { name = name; body = body })
 
 -- the function's name and what it returns
@@ -55,10 +55,10 @@ heading_free name named =
     (word_free (codes "trigger") (codes "trigger") Anything refl refl) (λ lines at rest behind. tt)
 
 -- LANGUAGE is printed before the code, wherever it stood
-written_code : Rule (List BodyStatement)
+written_code : Rule Body
 written_code = Either (Keyword (codes "language") ∷ []) (language ▸ word (codes "as") ▸ code) (word (codes "as") ▸ code ◂ language)
 
-written_code_free : (body : List BodyStatement) (Behind : List PlacedLexeme → Type 0) → IsFree code body (code_tokens body) Behind
+written_code_free : (body : Body) (Behind : List PlacedLexeme → Type 0) → IsFree code body (code_tokens body) Behind
     → IsFree written_code body (say (codes "LANGUAGE") ∷ say (codes "plpgsql") ∷ say (codes "AS") ∷ code_tokens body) Behind
 unfolding written_code
 written_code_free body Behind free =
@@ -69,7 +69,7 @@ written_code_free body Behind free =
     (word_free (codes "plpgsql") (codes "plpgsql") Anything refl refl))
     (behind_word (codes "AS") (codes "as") code body (code_tokens body) Behind refl refl free))
 
-written_code_derived : (body : List BodyStatement) → Derives written_code body → Derives code body
+written_code_derived : (body : Body) → Derives written_code body → Derives code body
 unfolding written_code
 written_code_derived body (inl (_, rest, _, (_, own, _, derived, b), a)) = subst (Derives code) (sym (a ∙ b)) derived
 written_code_derived body (inr (_, rest, _, (own, _, derived, _, b), a)) = subst (Derives code) (sym (a ∙ b)) derived
@@ -78,7 +78,7 @@ heading_named : (name : Bytes) → Derives heading name → IsNamed name
 unfolding heading
 heading_named name (a, _, (b, _, (c, _, derived, _, e2), _, e1), _, e0) = subst IsNamed (sym (e0 ∙ (e1 ∙ e2))) (public_named DerivesSome c derived)
 
-function_free : (name : Bytes) (body : List BodyStatement) (Behind : List PlacedLexeme → Type 0) → IsNamed name → Derives code body → block_depth body ≤ 100
+function_free : (name : Bytes) (body : Body) (Behind : List PlacedLexeme → Type 0) → IsNamed name → Derives code body → body_depth body ≤ 100
     → IsFree create_function (function_of name body)
     (say (codes "FUNCTION") ∷ (heading_tokens name ++ say (codes "LANGUAGE") ∷ say (codes "plpgsql") ∷ say (codes "AS") ∷ code_tokens body)) Behind
 unfolding create_function function_of heading written_code code_tokens

@@ -1,10 +1,13 @@
--- Where a code has been read, no more IFs lie within one another than may: where one more would be opened, reading stops.
-use Rattle.std.proofs.Common.{◌≡◌, ℕ, zero, suc, ◌≤◌, max, Bool, true, false, ◌&&◌, ◌||◌, List, [], ◌∷◌, length, map, Option, Some, None, refl, subst, codes, arith, if◌then◌else◌}
+-- Where a code has been read, no more IFs and blocks lie within one another than may: where one more would be opened, reading stops.
+use Rattle.std.proofs.Common.{◌≡◌, ℕ, zero, suc, ◌≤◌, max, Bool, true, false, ◌&&◌, ◌||◌, List, [], ◌∷◌, length, map, Option, Some, None, refl, sym, subst, codes, arith, if◌then◌else◌}
 use Rattle.aq_base.specs.declared.fault.SqlFault.{SqlFault}
 use Rattle.aq_base.specs.declared.expr.Expr.{Expr}
 use Rattle.aq_base.specs.declared.body.BodyStatement.{BodyStatement}
 use Rattle.aq_base.specs.declared.body.BodyStatement.TheVariants as bodies
+use Rattle.aq_base.specs.Names.{Text as Bytes}
 use Rattle.aq_base.specs.declared.body.ElseIf.{ElseIf}
+use Rattle.aq_base.specs.declared.body.Handler.{Handler}
+use Rattle.aq_base.specs.declared.body.Body.{Body}
 use Rattle.aq_base.specs.declared.statement.Statement.{Statement}
 use Rattle.aq_lex.specs.declared.token.Symbol.TheVariants.{Semicolon}
 use Rattle.aq_lex.specs.Lexemes.{PlacedLexeme}
@@ -16,11 +19,12 @@ use Rattle.aq_grammar.specs.Calls.{called_within}
 use Rattle.aq_grammar.specs.Nonterminals.{rules, reads_called, reads}
 use Rattle.aq_grammar.specs.Forms.{sign, ◌▸◌, ◌◂◌, mapped, optional}
 use Rattle.aq_grammar.specs.Changes.{insert, update, delete, set_constraints}
-use Rattle.aq_grammar.specs.Bodies.{if_limit, unsupported_statements, refused_in_code, less_room, inner_block, else_if, otherwise, if_of, if_statement, raise, return_, body_statement, body_words, block, code}
+use Rattle.aq_grammar.specs.Bodies.{opens_too_many, unsupported_statements, refused_in_code, less_room, inner_block, else_if, otherwise, if_of, if_statement, handler, handlers, body, block_of, raise, return_, body_statement, body_words, block, code}
 use Rattle.aq_grammar.specs.Triggers.{create_function, create_trigger, create_constraint_trigger}
 use Rattle.aq_grammar.specs.Tables.{create_table, alter_table}
 use Rattle.aq_grammar.specs.Statements.{created, supported_in_setup}
-use Rattle.aq_forms.proofs.Depths.{deepest, statement_depth, block_depth, branches_depth, perhaps_deep, HasRoom, if_depth, raise_depth, return_depth, insert_depth, update_depth, delete_depth, set_constraints_depth}
+use Rattle.aq_forms.proofs.Depths.{deepest, statement_depth, block_depth, branches_depth, handlers_depth, body_depth, perhaps_deep, HasRoom, if_depth, block_is_deep, raise_depth, return_depth, insert_depth, update_depth, delete_depth, set_constraints_depth}
+use Rattle.aq_forms.proofs.BlockEnds.{others_none}
 
 -- what was read by the one and then the other
 bound : {A B : Type 0} (outcome : Outcome A) (f : A → List PlacedLexeme → Outcome B) (y : B) (rest : List PlacedLexeme) → (outcome >>= f) ≡ Read y rest
@@ -169,12 +173,12 @@ all_deepest room depth (x ∷ others) all = let so = all_deepest room depth othe
 abbrev Depth_is_none : BodyStatement → Type 0
 Depth_is_none s = statement_depth s ≡ 0
 
--- where IF is refused, none begins
-no_if : (tokens : List PlacedLexeme) → refused (refused_in_code 0) tokens ≡ None → begins (Keyword (codes "if") ∷ []) tokens ≡ false
-no_if [] none = refl
-no_if (token ∷ tokens) none = by_test (fits (Keyword (codes "if")) token) none
+-- where the word of an IF or a block is refused, none begins
+none_begins : (text : Bytes) (others : List Refusal) (tokens : List PlacedLexeme) → refused (opens_too_many text ∷ others) tokens ≡ None → begins (Keyword text ∷ []) tokens ≡ false
+none_begins text others [] none = refl
+none_begins text others (token ∷ tokens) none = by_test (fits (Keyword text) token) none
   where
-    by_test : (test : Bool) → (if test && true then Some if_limit.fault else refused unsupported_statements (token ∷ tokens)) ≡ None → (test || false) ≡ false
+    by_test : (test : Bool) → (if test && true then Some (opens_too_many text).fault else refused others (token ∷ tokens)) ≡ None → (test || false) ≡ false
     by_test true none = cc
     by_test false none = refl
 
@@ -187,7 +191,7 @@ module _ (calls : (n : Nonterminal) → Reader (ValueOf n)) where
   unfolding return_
   return_is_flat = behind calls (told calls (anything calls) (λ what so. return_depth what))
 
-  -- a statement but IF
+  -- a statement but IF and a block
   flat : Rule BodyStatement
   flat =
       Either (Keyword (codes "raise") ∷ []) raise
@@ -248,18 +252,59 @@ module _ (calls : (n : Nonterminal) → Reader (ValueOf n)) where
           if_depth condition first others last in
           omega arith
 
-  -- IF is read only where there is room for it
+  -- ---- blocks with their handlers
+
+  handler_in_room : (room : ℕ) → HasBlocks (suc room) → ReadsOnly calls (handler (suc room)) (λ found. block_depth found.statements ≤ room)
+  unfolding handler
+  handler_in_room room blocks = behind calls (both calls (anything calls) (behind calls blocks) (λ conditions statements p q. q))
+
+  handlers_in_room : (room : ℕ) → HasBlocks (suc room) → ReadsOnly calls (handlers (suc room)) (λ found. handlers_depth found ≤ room)
+  unfolding handlers
+  handlers_in_room room blocks =
+      either calls
+      (behind calls
+      (both calls {P = λ (found : Handler). block_depth found.statements ≤ room} {Q = λ found. handlers_depth found ≤ room} (handler_in_room room blocks)
+      (many calls (handler_in_room room blocks) (λ xs all. all_deepest room (λ (found : Handler). block_depth found.statements) xs all))
+      (λ first others p q. omega arith)))
+      (done calls (omega arith))
+
+  body_in_room : (room : ℕ) → HasBlocks (suc room) → ReadsOnly calls (body (suc room)) (λ found. body_depth found ≤ suc room)
+  unfolding body
+  body_in_room room blocks =
+      behind calls (before calls
+      (both calls {P = λ statements. block_depth statements ≤ room} {Q = λ found. handlers_depth found ≤ room} blocks (handlers_in_room room blocks)
+      (λ statements found p q. omega arith)))
+
+  block_statement_in_room : (room : ℕ) → HasBlocks (suc room) → ReadsOnly calls (mapped block_of (body (suc room))) (λ s. statement_depth s ≤ suc room)
+  block_statement_in_room room blocks = told calls (body_in_room room blocks) (λ found p. whole found p)
+    where
+      whole : (found : Body) → body_depth found ≤ suc room → statement_depth (block_of found) ≤ suc room
+      whole found p =
+          let depth : statement_depth (block_of found) ≡ body_depth found = block_is_deep found.statements found.handlers in
+          subst (λ (depth : ℕ). depth ≤ suc room) (sym depth) p
+
+  -- IF and a block are read only where there is room for them
   statement_in_room : (room : ℕ) → HasBlocks room → (tokens rest : List PlacedLexeme) (s : BodyStatement) → refused (refused_in_code room) tokens ≡ None
       → read_by calls (body_statement room) tokens ≡ Read s rest → statement_depth s ≤ room
   unfolding body_statement flat
   statement_in_room zero blocks tokens rest s none e =
+      let behind_if = others_none (opens_too_many (codes "if")) (opens_too_many (codes "begin") ∷ unsupported_statements) tokens none in
+      let no_if : begins (Keyword (codes "if") ∷ []) tokens ≡ false = none_begins (codes "if") (opens_too_many (codes "begin") ∷ unsupported_statements) tokens none in
+      let no_block : begins (Keyword (codes "begin") ∷ []) tokens ≡ false = none_begins (codes "begin") unsupported_statements tokens behind_if in
+      let others_read =
+      subst
+      (λ (test : Bool).
+      (if test then read_by calls (if_statement zero) tokens
+      else (if begins (Keyword (codes "begin") ∷ []) tokens then read_by calls (mapped block_of (body zero)) tokens else read_by calls flat tokens)) ≡ Read s rest)
+      no_if e in
       let flat_read : read_by calls flat tokens ≡ Read s rest =
-      subst (λ (test : Bool). (if test then read_by calls (if_statement zero) tokens else read_by calls flat tokens) ≡ Read s rest) (no_if tokens none) e in
+      subst (λ (test : Bool). (if test then read_by calls (mapped block_of (body zero)) tokens else read_by calls flat tokens) ≡ Read s rest) no_block others_read in
       let flat_depth : statement_depth s ≡ 0 = flat_is_flat.so tokens rest s flat_read in
       omega arith
   statement_in_room (suc room) blocks tokens rest s none e =
-      let found : ReadsOnly calls (Either (Keyword (codes "if") ∷ []) (if_statement (suc room)) flat) (λ s. statement_depth s ≤ suc room) =
-      either calls (if_in_room room blocks) (flat_in_room room) in
+      let found : ReadsOnly calls (Either (Keyword (codes "if") ∷ []) (if_statement (suc room))
+      (Either (Keyword (codes "begin") ∷ []) (mapped block_of (body (suc room))) flat)) (λ s. statement_depth s ≤ suc room) =
+      either calls (if_in_room room blocks) (either calls (block_statement_in_room room blocks) (flat_in_room room)) in
       found.so tokens rest s e
 
   block_in_room : (room : ℕ) → HasBlocks room → ReadsOnly calls (block room) (λ statements. block_depth statements ≤ room)
@@ -296,21 +341,21 @@ read_block_has_room room tokens rest statements e = within_room (suc (length tok
 
 -- ---- statements of a setup
 
-code_has_room : ReadsOnly reads_called code (λ statements. block_depth statements ≤ 100)
+code_has_room : ReadsOnly reads_called code (λ found. body_depth found ≤ 100)
 unfolding code
 code_has_room =
-    behind reads_called (behind reads_called (before reads_called (before reads_called (before reads_called
+    behind reads_called (before reads_called (before reads_called (body_in_room reads_called 99
     (record {
-      so = gives_called (λ statements. statements) (reads_called (Block 100)) (λ statements. block_depth statements ≤ 100) (λ statements. block_depth statements ≤ 100)
-          (read_block_has_room 100) (λ statements p. p);
-    })))))
+      so = gives_called (λ statements. statements) (reads_called (Block 99)) (λ statements. block_depth statements ≤ 99) (λ statements. block_depth statements ≤ 99)
+          (read_block_has_room 99) (λ statements p. p);
+    }))))
 
 function_has_room : ReadsOnly reads_called create_function HasRoom
 unfolding create_function
 function_has_room =
     behind reads_called
     (both reads_called (anything reads_called)
-    (either reads_called {P = λ statements. block_depth statements ≤ 100} (behind reads_called (behind reads_called code_has_room))
+    (either reads_called {P = λ found. body_depth found ≤ 100} (behind reads_called (behind reads_called code_has_room))
     (behind reads_called (before reads_called code_has_room))) (λ name body p q. q))
 
 -- other statements have no code

@@ -193,7 +193,7 @@ unfolding create_table
 creation_prints made named valid =
     word_then refl
     (both_print_any {f = λ table items. CreateTable (record { table = table; items = items })} {ws = Name made.table ∷ []} (public_prints made.table Anything named)
-    (end_prints (parentheses_print (items_print made.items valid) (λ line rest. (line, CloseParen, rest, refl))) no_refused_behind))
+    (end_prints (parentheses_print (items_print made.items valid) (λ line rest. (line, CloseParen, rest, refl, refl))) no_refused_behind))
 
 -- it is printed with CREATE, and the rule with the tokens behind that
 pub created_table_free : (s : Statement) → Derives create_table s
