@@ -1,0 +1,2 @@
+pub mod Subtransactions
+pub mod Kept

@@ -1,5 +1,14 @@
-//! Sessions and sets of them.
+//! Sessions and sets of them, the subtransactions of their transactions, and what a view sees.
 #![tactic(auto)]
+
+mod fate;
+mod kept;
+mod marks;
+mod view;
+mod xids;
+
+pub use view::{Snapshot, SubNo, Tx, View};
+pub use xids::Xids;
 
 /// A session's number in script order, from 0.
 #[derive(Clone, Copy, PartialEq, Eq, PartialOrd, Ord, Hash)]
