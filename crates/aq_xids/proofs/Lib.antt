@@ -2,3 +2,4 @@ pub mod Lists
 pub mod Shown
 pub mod Marked
 pub mod Begun
+pub mod Ranges

@@ -1,2 +1,3 @@
 pub mod Subtransactions
 pub mod Kept
+pub mod Sets

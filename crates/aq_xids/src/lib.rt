@@ -4,9 +4,11 @@
 mod fate;
 mod kept;
 mod marks;
+mod sets;
 mod view;
 mod xids;
 
+pub use sets::SESSIONS;
 pub use view::{Snapshot, SubNo, Tx, View};
 pub use xids::Xids;
 
