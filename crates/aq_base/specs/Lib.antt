@@ -12,6 +12,7 @@ pub mod Works
 pub mod Rounds
 pub mod Limits
 pub mod Blockers
+pub mod Cycles
 pub mod Rules
 pub mod Terms
 pub mod Statements

@@ -1,0 +1,3 @@
+pub mod Subtransactions
+pub mod Kept
+pub mod Sets

@@ -1,0 +1,5 @@
+pub mod Lists
+pub mod Shown
+pub mod Marked
+pub mod Begun
+pub mod Ranges
