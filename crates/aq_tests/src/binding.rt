@@ -64,10 +64,12 @@ fn given_told(given: &BoundGiven) -> &'static str {
 fn condition_told(condition: &Option<BoundExpr>) -> &'static str {
     match condition {
         None => "everywhere",
-        Some(BoundExpr::Unary {
-            operator: UnaryOperator::IsNull,
-            operand,
-        }) => match operand.get() {
+        Some(
+            BoundExpr::Unary {
+                operator: UnaryOperator::IsNull,
+                operand,
+            },
+        ) => match operand.get() {
             BoundExpr::Column(column) if column.get() == 0 => "where column 0 is null",
             _ => "where another is null",
         },
