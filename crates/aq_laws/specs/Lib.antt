@@ -1,1 +1,4 @@
 pub mod Locks
+pub mod Commits
+pub mod Told
+pub mod Default
