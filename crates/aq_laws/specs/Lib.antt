@@ -2,3 +2,10 @@ pub mod Locks
 pub mod Commits
 pub mod Told
 pub mod Default
+pub mod Made
+pub mod Committed
+pub mod Firing
+pub mod Returns
+pub mod Waiting
+pub mod Endings
+pub mod Alone
