@@ -2,9 +2,10 @@
 
 statements  so many statements in all
 bytes       so many bytes, most of them in texts of 1,000 bytes
+code        a function whose code has so many blocks, each with a statement and a handler with another
 nested      one expression of so many tokens: a number in parentheses
 open        one expression of so many parentheses that are never closed
-ifs         a function with so many IFs open
+ifs         a function with so many IFs open within the block of its code
 bodies      a trigger whose function has so many statements, over 64 tables of 32 columns
 blocks      a trigger whose function has so many blocks, each with a statement and a handler with another
 functions   so many functions, and 64 triggers that name the last of them
@@ -13,7 +14,7 @@ defaults    the same with names by default
 constraints a table with so many unique keys with names by default, all in one statement
 columns     a unique key with a name, over so many columns, none of which is there
 
-The last statement of the first two is refused, so that nothing is run.
+The last statement of the first three is refused, so that nothing is run.
 """
 import sys
 
@@ -70,9 +71,17 @@ def bodies(size):
     return "\\setup\n" + tables() + function("f", statements) + trigger("x", "f")
 
 
-def blocks(size):
+def in_blocks(size):
     block = "BEGIN INSERT INTO t%d (c0) VALUES (NEW.c0); EXCEPTION WHEN unique_violation OR SQLSTATE '22003' THEN DELETE FROM t%d WHERE c30 = OLD.c29; END; "
-    return "\\setup\n" + tables() + function("f", "".join(block % (n % 64, n % 64) for n in range(size))) + trigger("x", "f")
+    return function("f", "".join(block % (n % 64, n % 64) for n in range(size)))
+
+
+def code(size):
+    return "\\setup\n" + in_blocks(size) + "\\session s\n" + END
+
+
+def blocks(size):
+    return "\\setup\n" + tables() + in_blocks(size) + trigger("x", "f")
 
 
 def functions(size):
@@ -100,6 +109,7 @@ def columns(size):
 SHAPES = {
     "statements": statements,
     "bytes": in_bytes,
+    "code": code,
     "nested": nested,
     "open": opened,
     "ifs": ifs,
