@@ -1,5 +1,5 @@
 -- One step of a session. The innermost task decides which kind of step it is.
-use Rattle.std.specs.Prelude.{ℕ, zero, suc, Bool, true, false, List, [], ◌∷◌, ◌++◌, length, Option, Some, None, nat_lt, slice_set, codes}
+use Rattle.std.specs.Prelude.{ℕ, zero, suc, Bool, true, false, ◌&&◌, List, [], ◌∷◌, ◌++◌, length, Option, Some, None, nat_lt, slice_set, codes}
 use Rattle.aq_base.specs.Limits.{step_limit}
 use Rattle.aq_base.specs.Works.{Work}
 use Rattle.aq_base.specs.Rounds.{round_of}
@@ -133,11 +133,11 @@ plan_of program st s = plan_with program st s (session_at st s) (session_at st s
 
 -- ---- the effects
 
+-- neither a step that waits nor one that meets the limit is counted
 abbrev pub is_counted_with : Option Transaction → List Task → Bool
-is_counted_with (Some t) (task ∷ below) = is_counted t.work task
+is_counted_with (Some t) (task ∷ below) = is_counted t.work task && nat_lt t.steps step_limit
 is_counted_with _ _ = false
 
--- a step that waits isn't counted
 abbrev pub count_effects : Bool → List Effect
 count_effects true = Counts_step ∷ []
 count_effects false = []
