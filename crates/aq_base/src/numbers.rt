@@ -225,3 +225,67 @@ impl RowNo {
         self.number
     }
 }
+
+/// A write's number: drawn from one counter at each change of a row, from 1, and never used again.
+#[derive(Clone, Copy, PartialEq, Eq, PartialOrd, Ord, Hash)]
+pub struct WriteNo {
+    number: u64,
+}
+
+impl Model for WriteNo {
+    ghost use Rattle.std.specs.Prelude.{ℕ};
+
+    ghost Value = { ℕ };
+
+    ghost view = { λ n. n.number };
+
+    ghost inverse = { λ n. record { number = n } };
+}
+
+impl WriteNo {
+    /// The write with this number.
+    pub fn new(number: u64) -> WriteNo
+        ensures { result ≡ number }
+    {
+        WriteNo { number }
+    }
+
+    /// The number.
+    pub fn get(self) -> u64
+        ensures { result ≡ self }
+    {
+        self.number
+    }
+}
+
+/// An event's number in its transaction, from 1, and never used again.
+#[derive(Clone, Copy, PartialEq, Eq, PartialOrd, Ord, Hash)]
+pub struct EventNo {
+    number: u32,
+}
+
+impl Model for EventNo {
+    ghost use Rattle.std.specs.Prelude.{ℕ};
+
+    ghost Value = { ℕ };
+
+    ghost view = { λ n. n.number };
+
+    ghost inverse = { λ n. record { number = n } };
+}
+
+impl EventNo {
+    /// The event with this number.
+    pub fn new(number: u32) -> EventNo
+        ensures { result ≡ number }
+    {
+        EventNo { number }
+    }
+
+    /// The number.
+    pub fn get(self) -> u32
+        ensures { result ≡ self }
+    {
+        self.number
+    }
+}
