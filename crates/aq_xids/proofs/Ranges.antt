@@ -1,9 +1,9 @@
 -- What is found in a run of numbers, and in the sets of sessions.
-use Rattle.std.proofs.Common.{◌≡◌, ◌≢◌, inl, inr, ℕ, zero, suc, ◌+◌, ◌<◌, ◌≤◌, Bool, true, false, ◌&&◌, ◌||◌, ◌==◌, cond, List, [], ◌∷◌, Some, None, refl, sym, ap, ◌∙◌, arith}
+use Rattle.std.proofs.Common.{not, is_some, ◌≡◌, ◌≢◌, inl, inr, ℕ, zero, suc, ◌+◌, ◌<◌, ◌≤◌, Bool, true, false, ◌&&◌, ◌||◌, ◌==◌, cond, List, [], ◌∷◌, Some, None, refl, sym, ap, ◌∙◌, arith}
 use Rattle.std.specs.List.{find, filter, list_any, range_with_len}
 use Rattle.std.proofs.lemmas.Bool.{cases_eq}
 use Rattle.std.proofs.lemmas.Bool.Decides.{nat_tests}
-use Rattle.aq_xids.specs.Sets.{has, all_sessions, members}
+use Rattle.aq_xids.specs.Sets.{has, all_sessions, members, is_nil}
 
 pub find-range : (p : ℕ → Bool) (a n k : ℕ) → a ≤ k → k < a + n → ((j : ℕ) → a ≤ j → j < k → p j ≡ false) → p k ≡ true → find p (range_with_len a n) ≡ Some k
 find-range p a zero k low high before here = absurd (omega arith)
@@ -117,3 +117,8 @@ single-range p a (suc n) k low high holds fails = elim (cases_eq a k) [
 pub members_single : (bits k : ℕ) → k < 16 → has bits k ≡ true → ((j : ℕ) → j ≢ k → has bits j ≡ false) → members bits ≡ k ∷ []
 unfolding members all_sessions
 members_single bits k high holds fails = single-range (has bits) 0 16 k (omega arith) high holds fails
+
+-- the first that is in a list itself
+pub find_itself : (xs : List ℕ) → not (is_some (find (λ s. list_any (λ m. m == s) xs) xs)) ≡ is_nil xs
+find_itself [] = refl
+find_itself (x ∷ xs) = let here : (x == x) ≡ true = grind (arith, nat_tests) in rw here refl

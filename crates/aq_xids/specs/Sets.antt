@@ -1,5 +1,5 @@
 -- Sets of sessions as numbers: a session is in where its bit is set.
-use Rattle.std.specs.Prelude.{ℕ, Bool, ◌==◌, List}
+use Rattle.std.specs.Prelude.{ℕ, Bool, true, false, ◌==◌, List, [], ◌∷◌}
 use Rattle.std.specs.List.{filter, range_with_len}
 use Rattle.std.specs.Int.{bit_at}
 
@@ -13,3 +13,7 @@ all_sessions = range_with_len 0 16
 -- those that are in, the lowest first
 unfoldable pub members : ℕ → List ℕ
 members bits = filter (has bits) all_sessions
+
+abbrev pub is_nil : List ℕ → Bool
+is_nil [] = true
+is_nil (n ∷ ns) = false

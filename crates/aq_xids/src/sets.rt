@@ -2,7 +2,7 @@
 
 ghost use Rattle.std.specs.Prelude.{◌≡◌, ◌≢◌, ℕ, ◌<◌, ◌==◌, true, false, find, option_map, IfSome};
 ghost use Rattle.std.specs.List.{list_any};
-ghost use Rattle.aq_xids.specs.Sets.{has, members};
+ghost use Rattle.aq_xids.specs.Sets.{has, members, is_nil};
 
 use crate::{SessNo, SessSet};
 
@@ -45,5 +45,15 @@ impl SessSet {
             }
         }
         None
+    }
+
+    /// Whether nobody is in.
+    pub fn is_empty(self) -> bool
+        ensures { result ≡ is_nil (members self.0) }
+    {
+        match self.first_common(self) {
+            Some(_) => false,
+            None => true,
+        }
     }
 }
