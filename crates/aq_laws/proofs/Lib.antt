@@ -4,3 +4,5 @@ pub mod Told_runs
 pub mod Told
 pub mod Default
 mod Traced_runs
+pub mod Written_works
+pub mod Apt

@@ -2,6 +2,7 @@
 #![tactic(auto)]
 
 ghost use Rattle.aq_laws.specs.Locks.{HoldingsAreApart};
+ghost use Rattle.aq_laws.specs.Writes.{WritesAreApart, WrittenRowsAreHeld};
 ghost use Rattle.aq_laws.specs.Commits.{CommitsAreNumbered};
 ghost use Rattle.aq_laws.specs.Told.{ScheduleIsTold, TextTellsSchedule};
 ghost use Rattle.aq_laws.specs.Default.{DefaultScheduleIsUnique};
@@ -9,6 +10,16 @@ ghost use Rattle.aq_laws.specs.Default.{DefaultScheduleIsUnique};
 /// At each moment of each run, no two sessions hold a row in modes that conflict.
 pub fn holdings_are_apart()
     ensures { HoldingsAreApart }
+{}
+
+/// At each moment of each run, no two sessions have written one row.
+pub fn writes_are_apart()
+    ensures { WritesAreApart }
+{}
+
+/// At each moment of each run, each session holds what it has written of the last database in the mode of a writer.
+pub fn written_rows_are_held()
+    ensures { WrittenRowsAreHeld }
 {}
 
 /// The commits that the trace tells of are numbered from 1 on, up to the number of the last database.

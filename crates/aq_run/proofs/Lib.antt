@@ -11,6 +11,8 @@ pub mod Copies_fit
 pub mod Holdings_apart
 pub mod Written
 pub mod Written_apart
+pub mod Ranks
+pub mod Waits_ordered
 pub mod Worked
 pub mod Told_apart
 mod Schedules
