@@ -25,12 +25,6 @@ pub struct Decl {
     pub deferred: bool,
 }
 
-impl Same for Decl {
-    fn same(&self, other: &Self) -> bool {
-        *self == *other
-    }
-}
-
 /// A column: its name, the kind of its values, and the value that it gets where none is given.
 #[derive(Drop)]
 pub struct Column {

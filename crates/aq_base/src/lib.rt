@@ -32,7 +32,7 @@ pub use bound_data::{
     BoundAssignment, BoundColumns, BoundDelete, BoundFrom, BoundGiven, BoundInsert, BoundSelect,
     BoundSource, BoundUpdate,
 };
-pub use bound_expr::{BoundExpr, copy_bound};
+pub use bound_expr::BoundExpr;
 pub use bound_statement::{Bound, BoundConstraints, BoundSet};
 pub use boxed::Boxed;
 pub use catalog::{

@@ -28,36 +28,3 @@ pub struct SetConstraints {
     pub mode: ConstraintMode,
 }
 
-impl Copies for Constraints {
-    fn copy(&self) -> Result<Self, AllocError> {
-        match self {
-            Constraints::All => Ok(Constraints::All),
-            Constraints::Named(names) => Ok(Constraints::Named(names.copy()?)),
-        }
-    }
-}
-
-impl Same for Constraints {
-    fn same(&self, other: &Self) -> bool {
-        match (self, other) {
-            (Constraints::All, Constraints::All) => true,
-            (Constraints::Named(names), Constraints::Named(other_names)) => names.same(other_names),
-            _ => false,
-        }
-    }
-}
-
-impl Copies for SetConstraints {
-    fn copy(&self) -> Result<Self, AllocError> {
-        Ok(SetConstraints {
-            constraints: self.constraints.copy()?,
-            mode: self.mode,
-        })
-    }
-}
-
-impl Same for SetConstraints {
-    fn same(&self, other: &Self) -> bool {
-        self.constraints.same(&other.constraints) && self.mode == other.mode
-    }
-}
