@@ -60,15 +60,11 @@ pub enum BodyStatement {
     Update(Update),
     Delete(Delete),
     SetConstraints(SetConstraints),
-    Block(Block),
-}
-
-/// `BEGIN statements EXCEPTION handlers END`. Without a handler there is no EXCEPTION.
-#[cycle(body)]
-#[derive(Drop)]
-pub struct Block {
-    pub statements: List<BodyStatement>,
-    pub handlers: List<Handler>,
+    /// `BEGIN statements EXCEPTION handlers END`. Without a handler there is no EXCEPTION.
+    Block {
+        statements: List<BodyStatement>,
+        handlers: List<Handler>,
+    },
 }
 
 /// `WHEN condition OR condition THEN statements`
@@ -85,5 +81,12 @@ pub struct Handler {
 pub struct ElseIf {
     pub condition: Expr,
     pub then: List<BodyStatement>,
+}
+
+/// The body of a function: its outermost block. Without a handler there is no EXCEPTION.
+#[derive(Drop)]
+pub struct Body {
+    pub statements: List<BodyStatement>,
+    pub handlers: List<Handler>,
 }
 

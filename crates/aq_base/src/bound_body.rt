@@ -21,16 +21,12 @@ pub enum BoundBodyStatement {
     Update(BoundUpdate),
     Delete(BoundDelete),
     SetConstraints(SetConstraints),
-    Block(BoundBlock),
-}
-
-/// A block: its statements, and the handlers that are tried in order when one of them fails. A block without
-/// handlers catches nothing and is no savepoint.
-#[derive(Drop)]
-#[cycle(bodies)]
-pub struct BoundBlock {
-    pub statements: List<BoundBodyStatement>,
-    pub handlers: List<BoundHandler>,
+    /// A block: its statements, and the handlers that are tried in order when one of them fails. A block without
+    /// handlers catches nothing and is no savepoint.
+    Block {
+        statements: List<BoundBodyStatement>,
+        handlers: List<BoundHandler>,
+    },
 }
 
 /// What is done where an error meets one of the conditions.
@@ -47,4 +43,11 @@ pub struct BoundHandler {
 pub struct BoundElseIf {
     pub condition: BoundExpr,
     pub then: List<BoundBodyStatement>,
+}
+
+/// The body of a trigger function: its outermost block.
+#[derive(Drop)]
+pub struct BoundBody {
+    pub statements: List<BoundBodyStatement>,
+    pub handlers: List<BoundHandler>,
 }

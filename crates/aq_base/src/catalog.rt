@@ -1,5 +1,5 @@
-use crate::body::Block;
-use crate::bound_body::BoundBlock;
+use crate::body::Body;
+use crate::bound_body::BoundBody;
 use crate::bound_expr::BoundExpr;
 use crate::constraint::Action;
 use crate::list::List;
@@ -79,7 +79,7 @@ pub struct Constraint {
 #[derive(Drop)]
 pub struct Function {
     pub name: TextVal,
-    pub body: Block,
+    pub body: Body,
 }
 
 /// What a trigger does when its event fires.
@@ -90,7 +90,7 @@ pub enum Does {
     /// Does what the foreign key says for the children of the parent row.
     Parent(FkNo),
     /// Runs the statements of its function.
-    Body(BoundBlock),
+    Body(BoundBody),
     /// Tests the new row by a rule of the program.
     Native(TextVal),
 }

@@ -26,8 +26,8 @@ mod trace;
 mod trigger;
 mod value;
 
-pub use body::{Block, BodyStatement, Condition, ElseIf, Handler, Returned};
-pub use bound_body::{BoundBlock, BoundBodyStatement, BoundElseIf, BoundHandler};
+pub use body::{Body, BodyStatement, Condition, ElseIf, Handler, Returned};
+pub use bound_body::{BoundBody, BoundBodyStatement, BoundElseIf, BoundHandler};
 pub use bound_data::{
     BoundAssignment, BoundColumns, BoundDelete, BoundFrom, BoundGiven, BoundInsert, BoundSelect,
     BoundSource, BoundUpdate,

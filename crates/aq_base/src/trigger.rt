@@ -1,6 +1,6 @@
 //! Functions and their triggers (PostgreSQL manual, pages CREATE FUNCTION and CREATE TRIGGER).
 
-use crate::body::Block;
+use crate::body::Body;
 use crate::catalog::Decl;
 use crate::copies::Copies;
 use crate::expr::Expr;
@@ -43,7 +43,7 @@ pub enum Each {
 #[derive(Drop)]
 pub struct CreateFunction {
     pub name: TextVal,
-    pub body: Block,
+    pub body: Body,
 }
 
 /// `CREATE TRIGGER name AFTER event OR event ON table REFERENCING transitions FOR EACH each
