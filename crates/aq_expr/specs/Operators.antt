@@ -10,6 +10,10 @@ use Rattle.aq_base.specs.declared.script.Kind.{Kind}
 use Rattle.aq_base.specs.declared.script.Kind.TheVariants.{Integer, Bigint}
 use Rattle.aq_base.specs.declared.expr.Comparison.{Comparison}
 use Rattle.aq_base.specs.declared.expr.Comparison.TheVariants.{Equal, Unequal, Less, AtMost, Greater, AtLeast}
+use Rattle.aq_base.specs.declared.expr.UnaryOperator.{UnaryOperator}
+use Rattle.aq_base.specs.declared.expr.UnaryOperator.TheVariants.{Negate, Not, IsNull, IsNotNull}
+use Rattle.aq_base.specs.declared.expr.BinaryOperator.{BinaryOperator}
+use Rattle.aq_base.specs.declared.expr.BinaryOperator.TheVariants.{Multiply, Add, Subtract, Compare, IsDistinct, IsNotDistinct, And, Or}
 use Rattle.aq_base.specs.declared.catalog.Op.{Op}
 use Rattle.aq_base.specs.declared.catalog.Op.TheVariants.{Insert, Update, Delete}
 use Rattle.aq_base.specs.Values.{Row, is_null, values_match}
@@ -109,6 +113,22 @@ or_of (Truth a) (Truth b) = Ok (Truth (a || b))
 or_of (Truth true) Null = Ok (Truth true)
 or_of Null (Truth true) = Ok (Truth true)
 or_of a b = Ok Null
+
+abbrev pub unary_of : UnaryOperator → Value → Answer
+unary_of Negate = negation_of
+unary_of Not = not_of
+unary_of IsNull = null_test_of
+unary_of IsNotNull = not_null_test_of
+
+abbrev pub binary_of : BinaryOperator → Value → Value → Answer
+binary_of Multiply = product_of
+binary_of Add = sum_of
+binary_of Subtract = difference_of
+binary_of (Compare comparison) = comparison_of comparison
+binary_of IsDistinct = distinct_of
+binary_of IsNotDistinct = not_distinct_of
+binary_of And = and_of
+binary_of Or = or_of
 
 -- a truth value, unknown at null and at any other value
 abbrev pub truth_of : Value → Option Bool
