@@ -1,13 +1,1 @@
-pub mod Faults
-pub mod Order
 pub mod Catalogs
-pub mod Scopes
-pub mod Names
-pub mod Lengths
-pub mod Kinds
-pub mod Binding
-pub mod Constraints
-pub mod References
-pub mod Tables
-pub mod Triggers
-pub mod Setup
