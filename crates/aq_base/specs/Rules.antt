@@ -2,9 +2,9 @@
 -- passes no comparison.
 use Rattle.std.specs.Prelude.{ℕ, ℤ, Bool, true, false, ◌&&◌, ◌||◌, Option, Some, None, unwrap_or, slice_get}
 use Rattle.std.specs.Ordering.{int_cmp, is_le}
-use Rattle.aq_base.specs.Values.{Row, is_null, values_match}
+use Rattle.aq_base.specs.Values.{Row, same_value}
 use Rattle.aq_base.specs.declared.value.Value.{Value}
-use Rattle.aq_base.specs.declared.value.Value.TheVariants.{Null, Bool as Truth, Int, Text as Characters}
+use Rattle.aq_base.specs.declared.value.Value.TheVariants.{Null, Int}
 
 pub data Rule : Type 0 where
   -- the value is null, or a whole number between two
@@ -34,13 +34,6 @@ rises_to (Int m) (Int n) = is_at_most m n
 rises_to Null v = true
 rises_to v Null = true
 rises_to v w = false
-
--- two nulls are the same here
-abbrev pub same_value : Value → Value → Bool
-same_value Null v = is_null v
-same_value (Truth a) v = values_match (Truth a) v
-same_value (Int n) v = values_match (Int n) v
-same_value (Characters s) v = values_match (Characters s) v
 
 -- without OLD, as in an INSERT, there is nothing to compare with
 abbrev pub keeps_value : Option Row → Row → ℕ → Bool

@@ -43,3 +43,17 @@ has_no_null row = list_all (λ v. not (is_null v)) row
 -- the values of a row at some columns
 abbrev pub values_at : List ℕ → Row → Row
 values_at cols row = map (λ col. unwrap_or (slice_get row col) Null) cols
+
+-- ---- the same, two nulls being the same as each other
+
+abbrev pub same_value : Value → Value → Bool
+same_value Null v = is_null v
+same_value (Truth a) v = values_match (Truth a) v
+same_value (Int n) v = values_match (Int n) v
+same_value (Text s) v = values_match (Text s) v
+
+abbrev pub same_values : Row → Row → Bool
+same_values [] [] = true
+same_values [] (w ∷ ws) = false
+same_values (v ∷ vs) [] = false
+same_values (v ∷ vs) (w ∷ ws) = same_value v w && same_values vs ws
