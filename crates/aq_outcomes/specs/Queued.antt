@@ -26,10 +26,10 @@ use Rattle.aq_outcomes.specs.Rows.{Change}
 abbrev pub is_among : List ℕ → ℕ → Bool
 is_among numbers n = list_any (λ m. m == n) numbers
 
--- without a list of columns, or where one of them is set
-abbrev pub passes_columns : List ℕ → List ℕ → Bool
-passes_columns [] set = true
-passes_columns (col ∷ cols) set = list_any (is_among set) (col ∷ cols)
+-- an UPDATE passes a list of columns where one of them is set; there may be no list
+abbrev pub passes_columns : Op → List ℕ → List ℕ → Bool
+passes_columns ops.Update (col ∷ cols) set = list_any (is_among set) (col ∷ cols)
+passes_columns _ _ _ = true
 
 abbrev pub is_true : Result (Option Bool) Kind → Result Bool Kind
 is_true (Ok None) = Ok false
@@ -91,7 +91,7 @@ around_change change = record { row = None; old = change.old; new = change.new; 
 abbrev pub fires_for_row : Schema → Change → List ℕ → Bool → ℕ → Option Trigger → Result Bool Kind
 fires_for_row schema change set wrote_old number None = Ok false
 fires_for_row schema change set wrote_old number (Some trigger) =
-    where_true (is_for_rows trigger.level && (passes_columns trigger.cols set && is_due schema change wrote_old trigger.does))
+    where_true (is_for_rows trigger.level && (passes_columns change.op trigger.cols set && is_due schema change wrote_old trigger.does))
     (condition_holds (around_change change) (condition_at schema number))
 
 -- the first condition without a value decides
@@ -117,7 +117,7 @@ around_statement op = record { row = None; old = None; new = None; op = Some op 
 abbrev pub fires_for_statement : Schema → Op → List ℕ → ℕ → Option Trigger → Result Bool Kind
 fires_for_statement schema op set number None = Ok false
 fires_for_statement schema op set number (Some trigger) =
-    where_true (not (is_for_rows trigger.level) && passes_columns trigger.cols set) (condition_holds (around_statement op) (condition_at schema number))
+    where_true (not (is_for_rows trigger.level) && passes_columns op trigger.cols set) (condition_holds (around_statement op) (condition_at schema number))
 
 unfoldable pub queued_by_statement : Schema → ℕ → Op → List ℕ → Result (List ℕ) Kind
 queued_by_statement schema table op set =

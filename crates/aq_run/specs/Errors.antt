@@ -71,7 +71,7 @@ finding_effects (Some finding) = Tells finding ∷ []
 abbrev pub on_catcher : Session → Fault → Option Catcher → List Effect
 on_catcher me fault (Some catcher) = Returns (length (saved_of me.transaction) - catcher.dropped) fault.told.code catcher.tasks ∷ []
 on_catcher me fault None =
-    Fails_with fault.told.code ∷ (undoing me.block fault.told.code (saved_of me.transaction) ++ Becomes (after_error me.block) ∷ Replies (error_lines fault.told) ∷ [])
+    Fails_with fault.told.code ∷ (undoing me.block fault.told.code (saved_of me.transaction) ++ Becomes (after_error me.block) ∷ Replies (fault.warnings ++ error_lines fault.told) ∷ [])
 
 -- the session stands as the effects before the fault have left it
 unfoldable pub error_effects : Schema → Session → Fault → List Effect

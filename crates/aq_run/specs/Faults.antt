@@ -1,7 +1,8 @@
 -- A fault of a step: what its reply says, what the trace shows before it, and whether a block may catch it.
-use Rattle.std.specs.Prelude.{ℕ, Bool, true, false, Option, Some, None}
+use Rattle.std.specs.Prelude.{ℕ, Bool, true, false, List, [], Option, Some, None}
 use Rattle.aq_base.specs.Values.{Row}
 use Rattle.aq_base.specs.declared.fault.SqlFault.{SqlFault}
+use Rattle.aq_base.specs.declared.reply.ReplyLine.{ReplyLine}
 
 -- what a check has found
 pub data Finding : Type 0 where
@@ -11,16 +12,21 @@ pub data Finding : Type 0 where
   A_pair : (parent : ℕ) → (child : ℕ) → Finding
 
 pub record Fault : Type 0 where
+  -- what its reply says before it
+  pub warnings : List ReplyLine
   pub told : SqlFault
   pub finding : Option Finding
   -- no block catches the fault of the limit on steps
   pub can_be_caught : Bool
 
 abbrev pub plain : SqlFault → Fault
-plain fault = record { told = fault; finding = None; can_be_caught = true }
+plain fault = record { warnings = []; told = fault; finding = None; can_be_caught = true }
 
 abbrev pub found : Finding → SqlFault → Fault
-found finding fault = record { told = fault; finding = Some finding; can_be_caught = true }
+found finding fault = record { warnings = []; told = fault; finding = Some finding; can_be_caught = true }
 
 abbrev pub final : SqlFault → Fault
-final fault = record { told = fault; finding = None; can_be_caught = false }
+final fault = record { warnings = []; told = fault; finding = None; can_be_caught = false }
+
+abbrev pub warned : List ReplyLine → SqlFault → Fault
+warned warnings fault = record (plain fault) { warnings = warnings }

@@ -37,8 +37,9 @@ use Rattle.aq_run.specs.States.Block_state.{Idle, Open, Failed}
 use Rattle.aq_run.specs.Effects.{Effect}
 use Rattle.aq_run.specs.Effects.Effect.{Takes_statement, Begins, Fixes_snapshot, Starts, Opens, Sets_mode, Saves, Releases, Returns, Aborts, Replies, Becomes, Ends}
 use Rattle.aq_run.specs.Replies.{tag, shown_rows, in_progress_warning, no_block_warning, constraints_warning}
+use Rattle.aq_run.specs.Faults.{warned}
 use Rattle.aq_run.specs.Plans.{Plan, refused}
-use Rattle.aq_run.specs.Plans.Plan.{Does_all}
+use Rattle.aq_run.specs.Plans.Plan.{Does_all, Fails}
 
 -- ---- transaction control
 
@@ -188,7 +189,8 @@ select_plan block t view s = reading_plan block t view s s.lock
 abbrev pub refused_plan : Block_state → Option Transaction → Form → SqlFault → Plan
 refused_plan Failed t form fault = refused (Takes_statement ∷ []) failed_block
 refused_plan block t On_rows fault = refused (before_reading block t) fault
-refused_plan block t On_constraints fault = refused (Takes_statement ∷ []) fault
+refused_plan Idle t On_constraints fault = Fails (Takes_statement ∷ []) (warned (constraints_warning ∷ []) fault)
+refused_plan Open t On_constraints fault = refused (Takes_statement ∷ []) fault
 
 -- ---- start and close
 
