@@ -1,2 +1,4 @@
 pub mod Tables
-mod Worked
+pub mod Worked
+mod Told_apart
+mod Schedules

@@ -45,7 +45,7 @@ use Rattle.aq_run.specs.Runs.{run_from, run, have_all_ended}
 use Rattle.aq_run.proofs.Tables.{final_tables}
 
 --
-no_script : Program
+unfoldable pub no_script : Program
 no_script =
     record {
       schema = record {
@@ -86,7 +86,7 @@ no_script-tables = refl
 -- CREATE TABLE p (id integer PRIMARY KEY);CREATE TABLE c (pid integer REFERENCES p );
 -- \session a
 -- INSERT INTO p VALUES (1); INSERT INTO c VALUES (1); INSERT INTO c VALUES (2);
-missing_parent : Program
+unfoldable pub missing_parent : Program
 missing_parent =
     record {
       schema = record {
@@ -131,7 +131,7 @@ missing_parent-tables = refl
 -- CREATE TABLE node (id integer PRIMARY KEY, up integer REFERENCES node);
 -- \session a
 -- INSERT INTO node VALUES (1, NULL), (2, 1); DELETE FROM node;
-tree : Program
+unfoldable pub tree : Program
 tree =
     record {
       schema = record {
@@ -176,7 +176,7 @@ tree-tables = refl
 -- CREATE TABLE p (id integer PRIMARY KEY);CREATE TABLE c (pid integer REFERENCES p DEFERRABLE INITIALLY DEFERRED);
 -- \session a
 -- BEGIN; INSERT INTO c VALUES (1); INSERT INTO p VALUES (1); COMMIT; BEGIN; INSERT INTO c VALUES (9); COMMIT;
-late_parent : Program
+unfoldable pub late_parent : Program
 late_parent =
     record {
       schema = record {
@@ -221,7 +221,7 @@ late_parent-tables = refl
 -- CREATE TABLE pair (a integer, b integer, PRIMARY KEY (a, b)); CREATE TABLE kid (x integer, y integer, FOREIGN KEY (x, y) REFERENCES pair MATCH FULL);
 -- \session a
 -- INSERT INTO kid VALUES (1, NULL); INSERT INTO kid VALUES (NULL, NULL); INSERT INTO kid VALUES (NULL, 1);
-match_full : Program
+unfoldable pub match_full : Program
 match_full =
     record {
       schema = record {
@@ -266,7 +266,7 @@ match_full-tables = refl
 -- CREATE TABLE p (id integer PRIMARY KEY);CREATE TABLE c (pid integer REFERENCES p DEFERRABLE INITIALLY DEFERRED);
 -- \session a
 -- INSERT INTO p VALUES (5); INSERT INTO c VALUES (5); BEGIN; DELETE FROM p WHERE id = 5; INSERT INTO p VALUES (5); COMMIT;
-parent_comes_back : Program
+unfoldable pub parent_comes_back : Program
 parent_comes_back =
     record {
       schema = record {
@@ -311,7 +311,7 @@ parent_comes_back-tables = refl
 -- CREATE TABLE p (id integer PRIMARY KEY);CREATE TABLE c (pid integer REFERENCES p ON DELETE RESTRICT DEFERRABLE INITIALLY DEFERRED);
 -- \session a
 -- INSERT INTO p VALUES (5); INSERT INTO c VALUES (5); BEGIN; DELETE FROM p WHERE id = 5; INSERT INTO p VALUES (5); COMMIT;
-restrict_at_once : Program
+unfoldable pub restrict_at_once : Program
 restrict_at_once =
     record {
       schema = record {
@@ -356,7 +356,7 @@ restrict_at_once-tables = refl
 -- CREATE TABLE p (id integer PRIMARY KEY); CREATE TABLE c (pid integer DEFAULT 5 REFERENCES p ON DELETE SET DEFAULT);
 -- \session a
 -- INSERT INTO p VALUES (5); INSERT INTO c VALUES (5); DELETE FROM p;
-default_without_parent : Program
+unfoldable pub default_without_parent : Program
 default_without_parent =
     record {
       schema = record {
@@ -401,7 +401,7 @@ default_without_parent-tables = refl
 -- CREATE TABLE p (id integer PRIMARY KEY);CREATE TABLE c (pid integer REFERENCES p DEFERRABLE INITIALLY DEFERRED);
 -- \session a
 -- BEGIN; INSERT INTO c VALUES (7); DELETE FROM c; COMMIT;
-skipped_check : Program
+unfoldable pub skipped_check : Program
 skipped_check =
     record {
       schema = record {
@@ -446,7 +446,7 @@ skipped_check-tables = refl
 -- CREATE TABLE p (id integer PRIMARY KEY);CREATE TABLE c (pid integer REFERENCES p DEFERRABLE INITIALLY DEFERRED);
 -- \session a
 -- INSERT INTO p VALUES (1); BEGIN; INSERT INTO c VALUES (1); SAVEPOINT s; SET CONSTRAINTS ALL IMMEDIATE; ROLLBACK TO s; DELETE FROM p; COMMIT;
-check_waits_again : Program
+unfoldable pub check_waits_again : Program
 check_waits_again =
     record {
       schema = record {
@@ -491,7 +491,7 @@ check_waits_again-tables = refl
 -- CREATE TABLE p (id integer PRIMARY KEY);CREATE TABLE c (pid integer REFERENCES p DEFERRABLE INITIALLY DEFERRED);
 -- \session a
 -- BEGIN; SAVEPOINT s; SET CONSTRAINTS ALL IMMEDIATE; ROLLBACK TO s; INSERT INTO c VALUES (3); INSERT INTO p VALUES (3); COMMIT;
-modes_put_back : Program
+unfoldable pub modes_put_back : Program
 modes_put_back =
     record {
       schema = record {
@@ -539,7 +539,7 @@ modes_put_back-tables = refl
 -- \session b
 -- DELETE FROM p;
 -- \schedule a*15 b*2 a*3 b*5
-lock_given_back : Program
+unfoldable pub lock_given_back : Program
 lock_given_back =
     record {
       schema = record {
@@ -587,7 +587,7 @@ lock_given_back-tables = refl
 -- \session b
 -- INSERT INTO c VALUES (1);
 -- \schedule a*7 b*8 a*7
-child_behind_snapshot : Program
+unfoldable pub child_behind_snapshot : Program
 child_behind_snapshot =
     record {
       schema = record {
@@ -635,7 +635,7 @@ child_behind_snapshot-tables = refl
 -- \session b
 -- INSERT INTO c VALUES (1);
 -- \schedule a*7 b*8 a*8
-cascade_behind_snapshot : Program
+unfoldable pub cascade_behind_snapshot : Program
 cascade_behind_snapshot =
     record {
       schema = record {
@@ -683,7 +683,7 @@ cascade_behind_snapshot-tables = refl
 -- \session b
 -- BEGIN; UPDATE c SET pid = 2; COMMIT;
 -- \schedule a*13 b*7 a*6 b*3 a*5
-cascade_waits : Program
+unfoldable pub cascade_waits : Program
 cascade_waits =
     record {
       schema = record {
@@ -731,7 +731,7 @@ cascade_waits-tables = refl
 -- \session b
 -- BEGIN; UPDATE p SET v = 2 WHERE id = 2; UPDATE p SET v = 2 WHERE id = 1; COMMIT;
 -- \schedule a*11 b*5 a*2 b*4 a*6
-two_rows_crosswise : Program
+unfoldable pub two_rows_crosswise : Program
 two_rows_crosswise =
     record {
       schema = record {
@@ -781,7 +781,7 @@ two_rows_crosswise-tables = refl
 -- CREATE CONSTRAINT TRIGGER b_log AFTER INSERT ON t DEFERRABLE INITIALLY DEFERRED FOR EACH ROW EXECUTE FUNCTION g();
 -- \session a
 -- BEGIN; INSERT INTO t VALUES (1), (2); COMMIT;
-settling_in_the_drain : Program
+unfoldable pub settling_in_the_drain : Program
 settling_in_the_drain =
     record {
       schema = record {
@@ -830,7 +830,7 @@ settling_in_the_drain-trace = refl
 -- CREATE TABLE node (id integer PRIMARY KEY, up integer REFERENCES node ON DELETE CASCADE); CREATE TABLE log (id integer);CREATE FUNCTION f() RETURNS trigger LANGUAGE plpgsql AS $$ BEGIN INSERT INTO log SELECT id FROM gone; RETURN NULL; END $$;CREATE TRIGGER s AFTER DELETE ON node REFERENCING OLD TABLE AS gone FOR EACH STATEMENT EXECUTE FUNCTION f();
 -- \session a
 -- INSERT INTO node VALUES (1, NULL), (2, 1), (3, 2); DELETE FROM node WHERE id = 1;
-transition_table_of_cascades : Program
+unfoldable pub transition_table_of_cascades : Program
 transition_table_of_cascades =
     record {
       schema = record {
@@ -878,7 +878,7 @@ transition_table_of_cascades-tables = refl
 -- \session b
 -- INSERT INTO p VALUES (1);
 -- \schedule a*3 b*2 a*5 b*2
-held_key : Program
+unfoldable pub held_key : Program
 held_key =
     record {
       schema = record {
@@ -925,7 +925,7 @@ held_key-tables = refl
 -- BEGIN; INSERT INTO order_lines VALUES (1, 1, 2), (1, 2, 5); INSERT INTO orders VALUES (1, 'ann'); COMMIT; UPDATE order_lines SET qty = qty + 1 WHERE order_id = 1; SELECT * FROM order_lines;
 -- \session b
 -- BEGIN; INSERT INTO orders VALUES (2, 'bob'); INSERT INTO order_lines (order_id, line) VALUES (2, 1); COMMIT; DELETE FROM orders WHERE id = 2; SELECT * FROM orders;
-orders : Program
+unfoldable pub orders : Program
 orders =
     record {
       schema = record {
@@ -971,7 +971,7 @@ orders-tables = refl
 -- CREATE TRIGGER n AFTER INSERT OR UPDATE ON t FOR EACH ROW EXECUTE FUNCTION native_ordered();
 -- \session a
 -- INSERT INTO t VALUES (1, 2); INSERT INTO t VALUES (3, 2);
-ordered_by_native : Program
+unfoldable pub ordered_by_native : Program
 ordered_by_native =
     record {
       schema = record {
@@ -1016,7 +1016,7 @@ ordered_by_native-tables = refl
 -- CREATE TABLE t (n integer);CREATE FUNCTION f() RETURNS trigger LANGUAGE plpgsql AS $$ BEGIN INSERT INTO t VALUES (NEW.n); RETURN NULL; END $$;CREATE TRIGGER x AFTER INSERT ON t FOR EACH ROW EXECUTE FUNCTION f();
 -- \session a
 -- INSERT INTO t VALUES (1);
-levels_without_end : Program
+unfoldable pub levels_without_end : Program
 levels_without_end =
     record {
       schema = record {
@@ -1059,7 +1059,7 @@ levels_without_end-tables = refl
 
 -- \session a
 -- SAVEPOINT s; BEGIN; SAVEPOINT s; RELEASE s; ROLLBACK TO s; COMMIT;
-savepoint_states : Program
+unfoldable pub savepoint_states : Program
 savepoint_states =
     record {
       schema = record {
@@ -1104,7 +1104,7 @@ savepoint_states-tables = refl
 -- CREATE TABLE t (n integer NOT NULL);
 -- \session a
 -- INSERT INTO t VALUES (NULL); INSERT INTO t VALUES (2147483648); DELETE FROM u; INSERT INTO t VALUES (2147483647);
-faults_of_rows : Program
+unfoldable pub faults_of_rows : Program
 faults_of_rows =
     record {
       schema = record {
@@ -1152,7 +1152,7 @@ faults_of_rows-tables = refl
 -- \session b
 -- INSERT INTO p VALUES (2);
 -- \schedule a*15 b*2 a*4 b*2
-key_of_a_kept_copy : Program
+unfoldable pub key_of_a_kept_copy : Program
 key_of_a_kept_copy =
     record {
       schema = record {
@@ -1200,7 +1200,7 @@ key_of_a_kept_copy-tables = refl
 -- \session b
 -- INSERT INTO p VALUES (1);
 -- \schedule a b*5 a*2 b
-read_and_written : Program
+unfoldable pub read_and_written : Program
 read_and_written =
     record {
       schema = record {
@@ -1245,7 +1245,7 @@ read_and_written-tables = refl
 -- CREATE TABLE p (id integer PRIMARY KEY);
 -- \session a
 -- COMMIT; BEGIN; BEGIN; INSERT INTO p VALUES (1); INSERT INTO p VALUES (1); DELETE FROM p; ROLLBACK; ROLLBACK;
-block_states : Program
+unfoldable pub block_states : Program
 block_states =
     record {
       schema = record {
@@ -1293,7 +1293,7 @@ block_states-tables = refl
 -- \session b
 -- UPDATE p SET id = 2;
 -- \schedule a*7 b*6 a*4
-row_behind_snapshot : Program
+unfoldable pub row_behind_snapshot : Program
 row_behind_snapshot =
     record {
       schema = record {
@@ -1341,7 +1341,7 @@ row_behind_snapshot-tables = refl
 -- \session b
 -- BEGIN; SELECT id FROM p FOR KEY SHARE; COMMIT; SELECT id FROM p FOR SHARE;
 -- \schedule a*9 b*6 b*2 a*2 b*3 a
-weak_locks : Program
+unfoldable pub weak_locks : Program
 weak_locks =
     record {
       schema = record {
@@ -1389,7 +1389,7 @@ weak_locks-tables = refl
 -- \session b
 -- INSERT INTO c VALUES (1);
 -- \schedule a*12 b*5 a*3 b*2
-check_waits_for_parent : Program
+unfoldable pub check_waits_for_parent : Program
 check_waits_for_parent =
     record {
       schema = record {
@@ -1434,7 +1434,7 @@ check_waits_for_parent-tables = refl
 -- CREATE TABLE t (a integer, b integer); CREATE TABLE log (n integer);CREATE FUNCTION f() RETURNS trigger LANGUAGE plpgsql AS $$ BEGIN INSERT INTO log VALUES (1); RETURN NULL; END $$;CREATE TRIGGER x AFTER UPDATE OF b ON t FOR EACH STATEMENT EXECUTE FUNCTION f();
 -- \session a
 -- UPDATE t SET a = 1; UPDATE t SET b = 1;
-update_of_another_column : Program
+unfoldable pub update_of_another_column : Program
 update_of_another_column =
     record {
       schema = record {
@@ -1479,7 +1479,7 @@ update_of_another_column-tables = refl
 -- CREATE TABLE t (id integer); CREATE TABLE u (id integer PRIMARY KEY); CREATE FUNCTION f() RETURNS trigger LANGUAGE plpgsql AS $$ BEGIN INSERT INTO u VALUES (NEW.id); RETURN NULL; EXCEPTION WHEN unique_violation THEN RETURN NULL; END $$; CREATE TRIGGER x AFTER INSERT ON t FOR EACH ROW EXECUTE FUNCTION f();
 -- \session a
 -- INSERT INTO t VALUES (1), (1), (2);
-caught_duplicate : Program
+unfoldable pub caught_duplicate : Program
 caught_duplicate =
     record {
       schema = record {
@@ -1528,7 +1528,7 @@ caught_duplicate-trace = refl
 -- CREATE TABLE p (id integer PRIMARY KEY);CREATE TABLE c (pid integer REFERENCES p DEFERRABLE INITIALLY DEFERRED);CREATE TABLE t (id integer);CREATE FUNCTION f() RETURNS trigger LANGUAGE plpgsql AS $$ BEGIN SET CONSTRAINTS ALL IMMEDIATE; RAISE EXCEPTION 'no'; EXCEPTION WHEN OTHERS THEN RETURN NULL; END $$;CREATE TRIGGER x AFTER INSERT ON t FOR EACH ROW EXECUTE FUNCTION f();
 -- \session a
 -- INSERT INTO p VALUES (1); BEGIN; INSERT INTO c VALUES (1); INSERT INTO t VALUES (1); DELETE FROM p; COMMIT;
-modes_and_locks_put_back : Program
+unfoldable pub modes_and_locks_put_back : Program
 modes_and_locks_put_back =
     record {
       schema = record {
@@ -1573,7 +1573,7 @@ modes_and_locks_put_back-tables = refl
 -- CREATE TABLE pair (a integer, b integer, PRIMARY KEY (a, b)); CREATE TABLE kid (x integer, y integer, FOREIGN KEY (x, y) REFERENCES pair ON DELETE SET NULL (y));
 -- \session a
 -- INSERT INTO pair VALUES (1, 2); INSERT INTO kid VALUES (1, 2); DELETE FROM pair;
-one_column_set_null : Program
+unfoldable pub one_column_set_null : Program
 one_column_set_null =
     record {
       schema = record {
@@ -1619,7 +1619,7 @@ one_column_set_null-tables = refl
 -- CREATE TRIGGER n AFTER INSERT OR UPDATE ON t FOR EACH ROW EXECUTE FUNCTION native_append();
 -- \session a
 -- INSERT INTO t VALUES (1, 5); UPDATE t SET b = 6; UPDATE t SET b = 4;
-appended_by_native : Program
+unfoldable pub appended_by_native : Program
 appended_by_native =
     record {
       schema = record {
@@ -1664,7 +1664,7 @@ appended_by_native-tables = refl
 -- CREATE TABLE p (id integer PRIMARY KEY);CREATE TABLE c (pid integer REFERENCES p );
 -- \session a
 -- INSERT INTO p VALUES (1); INSERT INTO c VALUES (1); INSERT INTO c VALUES (2);
-missing_parent_traced : Program
+unfoldable pub missing_parent_traced : Program
 missing_parent_traced =
     record {
       schema = record {
@@ -1713,7 +1713,7 @@ missing_parent_traced-trace = refl
 -- CREATE TABLE p (id integer PRIMARY KEY);CREATE TABLE c (pid integer REFERENCES p ON DELETE RESTRICT DEFERRABLE INITIALLY DEFERRED);
 -- \session a
 -- INSERT INTO p VALUES (5); INSERT INTO c VALUES (5); BEGIN; DELETE FROM p WHERE id = 5; INSERT INTO p VALUES (5); COMMIT;
-pair_traced : Program
+unfoldable pub pair_traced : Program
 pair_traced =
     record {
       schema = record {

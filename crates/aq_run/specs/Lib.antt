@@ -13,3 +13,4 @@ pub mod Bodies
 pub mod Errors
 pub mod Steps
 pub mod Runs
+pub mod Measure
