@@ -24,6 +24,7 @@ first_frame = record { place = 0; blocks = [] }
 pub data Next : Type 0 where
   To_change : (change : Change_of_rows) → Next
   To_set : (set : SetConstraints) → Next
+  -- a block with handlers, which isn't open yet
   To_enter : Next
   To_raise : (text : Text) → Next
   To_return : Next
@@ -54,7 +55,7 @@ ahead_from truth (Unless condition passed ∷ code) zero place blocks =
       | Err kind ↦ ahead (To_fault kind) place blocks
     ]
 ahead_from truth (Passes_over passed ∷ code) zero place blocks = ahead_from truth code passed (place + 1) blocks
-ahead_from truth (Enters handlers ∷ code) zero place blocks = ahead To_enter (place + 1) (place ∷ blocks)
+ahead_from truth (Enters handlers ∷ code) zero place blocks = ahead To_enter (place + 1) blocks
 ahead_from truth (Leaves ∷ code) zero place blocks = ahead_from truth code 0 (place + 1) (drop 1 blocks)
 ahead_from truth (Raises text ∷ code) zero place blocks = ahead (To_raise text) (place + 1) blocks
 ahead_from truth (Returns ∷ code) zero place blocks = ahead To_return (place + 1) blocks
@@ -63,6 +64,10 @@ ahead_from truth (Sets set ∷ code) zero place blocks = ahead (To_set set) (pla
 
 abbrev pub next_of : (Term → Result Bool Kind) → Code → Frame → Ahead
 next_of truth code frame = ahead_from truth (drop frame.place code) 0 frame.place frame.blocks
+
+-- the block with handlers whose first instruction the body has just passed is open
+abbrev pub entered : Frame → Frame
+entered frame = record frame { blocks = (frame.place - 1) ∷ frame.blocks }
 
 -- the change of rows that stands just before a place
 abbrev pub change_in : Option Instruction → Option Change_of_rows

@@ -2,13 +2,14 @@
 use Rattle.std.proofs.Common.{◌≡◌, true, false, [], ◌∷◌, ◌++◌, Some, None, refl}
 use Rattle.std.specs.Prelude.{codes, pos, replicate}
 use Rattle.std.specs.Fmt.{digits}
-use Rattle.aq_base.specs.Terms.Term.{Constant, Column, Binary}
+use Rattle.aq_base.specs.Terms.Term.{Constant, Column, New, Binary}
 use Rattle.aq_base.specs.Statements.Given.{Value_of}
 use Rattle.aq_base.specs.Statements.Source.{Values}
 use Rattle.aq_base.specs.Statements.Change_of_rows.{Inserts, Updates, Deletes}
-use Rattle.aq_base.specs.Statements.Statement.{Changes_rows, Sets_constraints, Begins, Commits}
+use Rattle.aq_base.specs.Statements.Statement.{Changes_rows, Selects, Sets_constraints, Begins, Commits, Makes_savepoint}
 use Rattle.aq_base.specs.Codes.{joined, block_code}
-use Rattle.aq_base.specs.Codes.Instruction.{Returns, Sets}
+use Rattle.aq_base.specs.Codes.Instruction.{Returns, Changes, Sets}
+use Rattle.aq_base.specs.declared.body.Condition.TheVariants as conditions
 use Rattle.aq_base.specs.declared.value.Value.TheVariants as values
 use Rattle.aq_base.specs.declared.script.Kind.TheVariants as kinds
 use Rattle.aq_base.specs.declared.expr.BinaryOperator.TheVariants.{Compare}
@@ -281,3 +282,49 @@ other_parent_held-replies = refl
 other_parent_held-tables : final_tables other_parent_held other_parent_held-end ≡ ((((values.Int (pos 3)) ∷ (values.Int (pos 1)) ∷ []) ∷ ((values.Int (pos 2)) ∷ (values.Int (pos 2)) ∷ []) ∷ []) ∷ (((values.Int (pos 2)) ∷ []) ∷ []) ∷ [])
 unfolding other_parent_held other_parent_held-end run_from step effect effects_of plan_of error_effects row_step insert_step queued_by queued_by_statement child_check no_action_check restrict_check action_targets new_rows targets
 other_parent_held-tables = refl
+
+-- 64 savepoints and blocks are open: the next block is refused before it is open, and the block around it catches that.
+-- \setup
+-- CREATE TABLE q (id integer PRIMARY KEY);CREATE TABLE t (n integer); CREATE TABLE u (n integer PRIMARY KEY, q integer REFERENCES q DEFERRABLE); CREATE TABLE log (s text, n integer);CREATE FUNCTION f() RETURNS trigger LANGUAGE plpgsql AS $$ BEGIN BEGIN INSERT INTO u VALUES (NEW.n); EXCEPTION WHEN unique_violation THEN RETURN NULL; END; INSERT INTO log VALUES ('fine', NEW.n); RETURN NULL; EXCEPTION WHEN OTHERS THEN INSERT INTO log VALUES ('caught', NEW.n); RETURN NULL; END $$;CREATE TRIGGER x AFTER INSERT ON t FOR EACH ROW EXECUTE FUNCTION f();
+-- \session a
+-- BEGIN; SAVEPOINT s; SAVEPOINT s; SAVEPOINT s; SAVEPOINT s; SAVEPOINT s; SAVEPOINT s; SAVEPOINT s; SAVEPOINT s; SAVEPOINT s; SAVEPOINT s; SAVEPOINT s; SAVEPOINT s; SAVEPOINT s; SAVEPOINT s; SAVEPOINT s; SAVEPOINT s; SAVEPOINT s; SAVEPOINT s; SAVEPOINT s; SAVEPOINT s; SAVEPOINT s; SAVEPOINT s; SAVEPOINT s; SAVEPOINT s; SAVEPOINT s; SAVEPOINT s; SAVEPOINT s; SAVEPOINT s; SAVEPOINT s; SAVEPOINT s; SAVEPOINT s; SAVEPOINT s; SAVEPOINT s; SAVEPOINT s; SAVEPOINT s; SAVEPOINT s; SAVEPOINT s; SAVEPOINT s; SAVEPOINT s; SAVEPOINT s; SAVEPOINT s; SAVEPOINT s; SAVEPOINT s; SAVEPOINT s; SAVEPOINT s; SAVEPOINT s; SAVEPOINT s; SAVEPOINT s; SAVEPOINT s; SAVEPOINT s; SAVEPOINT s; SAVEPOINT s; SAVEPOINT s; SAVEPOINT s; SAVEPOINT s; SAVEPOINT s; SAVEPOINT s; SAVEPOINT s; SAVEPOINT s; SAVEPOINT s; SAVEPOINT s; SAVEPOINT s; SAVEPOINT s; INSERT INTO t VALUES (1); SELECT * FROM log; COMMIT;
+unfoldable pub block_is_the_65th : Program
+block_is_the_65th =
+    record {
+      schema = record {
+        catalog = record {
+          tables = (record { name = codes "q"; cols = (record { name = codes "id"; kind = kinds.Integer; default = values.Null } ∷ []); not_null = (0 ∷ []) } ∷ record { name = codes "t"; cols = (record { name = codes "n"; kind = kinds.Integer; default = values.Null } ∷ []); not_null = [] } ∷ record { name = codes "u"; cols = (record { name = codes "n"; kind = kinds.Integer; default = values.Null } ∷ record { name = codes "q"; kind = kinds.Integer; default = values.Null } ∷ []); not_null = (0 ∷ []) } ∷ record { name = codes "log"; cols = (record { name = codes "s"; kind = kinds.Text; default = values.Null } ∷ record { name = codes "n"; kind = kinds.Integer; default = values.Null } ∷ []); not_null = [] } ∷ []);
+          keys = (record { name = codes "q_pkey"; table = 0; cols = (0 ∷ []) } ∷ record { name = codes "u_pkey"; table = 2; cols = (0 ∷ []) } ∷ []);
+          primaries = (0 ∷ 1 ∷ []);
+          fks = (record { name = codes "u_q_fkey"; child = 2; child_cols = (1 ∷ []); parent = 0; parent_cols = (0 ∷ []); full = false; on_delete = actions.NoAction; on_update = actions.NoAction; con = 2; set_cols = (1 ∷ []) } ∷ []);
+          constraints = (record { name = codes "q_pkey"; table = 0; decl = record { deferrable = false; deferred = false } } ∷ record { name = codes "u_pkey"; table = 2; decl = record { deferrable = false; deferred = false } } ∷ record { name = codes "u_q_fkey"; table = 2; decl = record { deferrable = true; deferred = false } } ∷ []);
+          functions = [];
+          triggers = (record { name = codes "RI_ConstraintTrigger_a_0000000001"; table = 0; ops = (ops.Delete ∷ []); cols = ([]); level = each.Row; condition = None; con = (Some 2); does = Parent 0; old_table = None; new_table = None } ∷ record { name = codes "RI_ConstraintTrigger_a_0000000001"; table = 0; ops = (ops.Update ∷ []); cols = ([]); level = each.Row; condition = None; con = (Some 2); does = Parent 0; old_table = None; new_table = None } ∷ record { name = codes "RI_ConstraintTrigger_c_0000000001"; table = 2; ops = (ops.Insert ∷ ops.Update ∷ []); cols = ([]); level = each.Row; condition = None; con = (Some 2); does = Check 0; old_table = None; new_table = None } ∷ record { name = codes "x"; table = 1; ops = (ops.Insert ∷ []); cols = ([]); level = each.Row; condition = None; con = None; does = Body (record { statements = []; handlers = [] }); old_table = None; new_table = None } ∷ []);
+        };
+        conditions = (None ∷ None ∷ None ∷ None ∷ []);
+        codes = ([] ∷ [] ∷ [] ∷ (block_code (joined ((block_code (joined ((Changes (Inserts (record { table = 2; columns = None; source = Values (((Value_of (New 0)) ∷ []) ∷ []) })) ∷ []) ∷ [])) (((conditions.UniqueViolation ∷ []), (joined ((Returns ∷ []) ∷ []))) ∷ [])) ∷ (Changes (Inserts (record { table = 3; columns = None; source = Values (((Value_of (Constant (values.Text (codes "fine")))) ∷ (Value_of (New 0)) ∷ []) ∷ []) })) ∷ []) ∷ (Returns ∷ []) ∷ [])) (((conditions.Others ∷ []), (joined ((Changes (Inserts (record { table = 3; columns = None; source = Values (((Value_of (Constant (values.Text (codes "caught")))) ∷ (Value_of (New 0)) ∷ []) ∷ []) })) ∷ []) ∷ (Returns ∷ []) ∷ []))) ∷ [])) ∷ []);
+        rules = [];
+      };
+      names = (codes "a" ∷ []);
+      statements = (((Ready (Begins isolations.ReadCommitted)) ∷ (Ready (Makes_savepoint (codes "s"))) ∷ (Ready (Makes_savepoint (codes "s"))) ∷ (Ready (Makes_savepoint (codes "s"))) ∷ (Ready (Makes_savepoint (codes "s"))) ∷ (Ready (Makes_savepoint (codes "s"))) ∷ (Ready (Makes_savepoint (codes "s"))) ∷ (Ready (Makes_savepoint (codes "s"))) ∷ (Ready (Makes_savepoint (codes "s"))) ∷ (Ready (Makes_savepoint (codes "s"))) ∷ (Ready (Makes_savepoint (codes "s"))) ∷ (Ready (Makes_savepoint (codes "s"))) ∷ (Ready (Makes_savepoint (codes "s"))) ∷ (Ready (Makes_savepoint (codes "s"))) ∷ (Ready (Makes_savepoint (codes "s"))) ∷ (Ready (Makes_savepoint (codes "s"))) ∷ (Ready (Makes_savepoint (codes "s"))) ∷ (Ready (Makes_savepoint (codes "s"))) ∷ (Ready (Makes_savepoint (codes "s"))) ∷ (Ready (Makes_savepoint (codes "s"))) ∷ (Ready (Makes_savepoint (codes "s"))) ∷ (Ready (Makes_savepoint (codes "s"))) ∷ (Ready (Makes_savepoint (codes "s"))) ∷ (Ready (Makes_savepoint (codes "s"))) ∷ (Ready (Makes_savepoint (codes "s"))) ∷ (Ready (Makes_savepoint (codes "s"))) ∷ (Ready (Makes_savepoint (codes "s"))) ∷ (Ready (Makes_savepoint (codes "s"))) ∷ (Ready (Makes_savepoint (codes "s"))) ∷ (Ready (Makes_savepoint (codes "s"))) ∷ (Ready (Makes_savepoint (codes "s"))) ∷ (Ready (Makes_savepoint (codes "s"))) ∷ (Ready (Makes_savepoint (codes "s"))) ∷ (Ready (Makes_savepoint (codes "s"))) ∷ (Ready (Makes_savepoint (codes "s"))) ∷ (Ready (Makes_savepoint (codes "s"))) ∷ (Ready (Makes_savepoint (codes "s"))) ∷ (Ready (Makes_savepoint (codes "s"))) ∷ (Ready (Makes_savepoint (codes "s"))) ∷ (Ready (Makes_savepoint (codes "s"))) ∷ (Ready (Makes_savepoint (codes "s"))) ∷ (Ready (Makes_savepoint (codes "s"))) ∷ (Ready (Makes_savepoint (codes "s"))) ∷ (Ready (Makes_savepoint (codes "s"))) ∷ (Ready (Makes_savepoint (codes "s"))) ∷ (Ready (Makes_savepoint (codes "s"))) ∷ (Ready (Makes_savepoint (codes "s"))) ∷ (Ready (Makes_savepoint (codes "s"))) ∷ (Ready (Makes_savepoint (codes "s"))) ∷ (Ready (Makes_savepoint (codes "s"))) ∷ (Ready (Makes_savepoint (codes "s"))) ∷ (Ready (Makes_savepoint (codes "s"))) ∷ (Ready (Makes_savepoint (codes "s"))) ∷ (Ready (Makes_savepoint (codes "s"))) ∷ (Ready (Makes_savepoint (codes "s"))) ∷ (Ready (Makes_savepoint (codes "s"))) ∷ (Ready (Makes_savepoint (codes "s"))) ∷ (Ready (Makes_savepoint (codes "s"))) ∷ (Ready (Makes_savepoint (codes "s"))) ∷ (Ready (Makes_savepoint (codes "s"))) ∷ (Ready (Makes_savepoint (codes "s"))) ∷ (Ready (Makes_savepoint (codes "s"))) ∷ (Ready (Makes_savepoint (codes "s"))) ∷ (Ready (Makes_savepoint (codes "s"))) ∷ (Ready (Changes_rows (Inserts (record { table = 1; columns = None; source = Values (((Value_of (Constant (values.Int (pos 1)))) ∷ []) ∷ []) })))) ∷ (Ready (Selects (record { columns = None; table = 3; condition = None; lock = None }))) ∷ (Ready Commits) ∷ []) ∷ []);
+    }
+
+block_is_the_65th-end : State
+unfolding block_is_the_65th run_from step effect effects_of plan_of error_effects row_step insert_step queued_by queued_by_statement child_check no_action_check restrict_check action_targets new_rows targets
+block_is_the_65th-end = run block_is_the_65th (replicate 81 0)
+
+block_is_the_65th-ended : have_all_ended block_is_the_65th-end ≡ true
+unfolding block_is_the_65th-end run_from step effect effects_of plan_of error_effects row_step insert_step queued_by queued_by_statement child_check no_action_check restrict_check action_targets new_rows targets
+block_is_the_65th-ended = refl
+
+block_is_the_65th-not_before : have_all_ended (run block_is_the_65th (replicate 80 0)) ≡ false
+unfolding block_is_the_65th run_from step effect effects_of plan_of error_effects row_step insert_step queued_by queued_by_statement child_check no_action_check restrict_check action_targets new_rows targets
+block_is_the_65th-not_before = refl
+
+block_is_the_65th-replies : block_is_the_65th-end.world.replies ≡ (record { session = 0; statement = 1; line = replies.Tag (codes "BEGIN") } ∷ record { session = 0; statement = 2; line = replies.Tag (codes "SAVEPOINT") } ∷ record { session = 0; statement = 3; line = replies.Tag (codes "SAVEPOINT") } ∷ record { session = 0; statement = 4; line = replies.Tag (codes "SAVEPOINT") } ∷ record { session = 0; statement = 5; line = replies.Tag (codes "SAVEPOINT") } ∷ record { session = 0; statement = 6; line = replies.Tag (codes "SAVEPOINT") } ∷ record { session = 0; statement = 7; line = replies.Tag (codes "SAVEPOINT") } ∷ record { session = 0; statement = 8; line = replies.Tag (codes "SAVEPOINT") } ∷ record { session = 0; statement = 9; line = replies.Tag (codes "SAVEPOINT") } ∷ record { session = 0; statement = 10; line = replies.Tag (codes "SAVEPOINT") } ∷ record { session = 0; statement = 11; line = replies.Tag (codes "SAVEPOINT") } ∷ record { session = 0; statement = 12; line = replies.Tag (codes "SAVEPOINT") } ∷ record { session = 0; statement = 13; line = replies.Tag (codes "SAVEPOINT") } ∷ record { session = 0; statement = 14; line = replies.Tag (codes "SAVEPOINT") } ∷ record { session = 0; statement = 15; line = replies.Tag (codes "SAVEPOINT") } ∷ record { session = 0; statement = 16; line = replies.Tag (codes "SAVEPOINT") } ∷ record { session = 0; statement = 17; line = replies.Tag (codes "SAVEPOINT") } ∷ record { session = 0; statement = 18; line = replies.Tag (codes "SAVEPOINT") } ∷ record { session = 0; statement = 19; line = replies.Tag (codes "SAVEPOINT") } ∷ record { session = 0; statement = 20; line = replies.Tag (codes "SAVEPOINT") } ∷ record { session = 0; statement = 21; line = replies.Tag (codes "SAVEPOINT") } ∷ record { session = 0; statement = 22; line = replies.Tag (codes "SAVEPOINT") } ∷ record { session = 0; statement = 23; line = replies.Tag (codes "SAVEPOINT") } ∷ record { session = 0; statement = 24; line = replies.Tag (codes "SAVEPOINT") } ∷ record { session = 0; statement = 25; line = replies.Tag (codes "SAVEPOINT") } ∷ record { session = 0; statement = 26; line = replies.Tag (codes "SAVEPOINT") } ∷ record { session = 0; statement = 27; line = replies.Tag (codes "SAVEPOINT") } ∷ record { session = 0; statement = 28; line = replies.Tag (codes "SAVEPOINT") } ∷ record { session = 0; statement = 29; line = replies.Tag (codes "SAVEPOINT") } ∷ record { session = 0; statement = 30; line = replies.Tag (codes "SAVEPOINT") } ∷ record { session = 0; statement = 31; line = replies.Tag (codes "SAVEPOINT") } ∷ record { session = 0; statement = 32; line = replies.Tag (codes "SAVEPOINT") } ∷ record { session = 0; statement = 33; line = replies.Tag (codes "SAVEPOINT") } ∷ record { session = 0; statement = 34; line = replies.Tag (codes "SAVEPOINT") } ∷ record { session = 0; statement = 35; line = replies.Tag (codes "SAVEPOINT") } ∷ record { session = 0; statement = 36; line = replies.Tag (codes "SAVEPOINT") } ∷ record { session = 0; statement = 37; line = replies.Tag (codes "SAVEPOINT") } ∷ record { session = 0; statement = 38; line = replies.Tag (codes "SAVEPOINT") } ∷ record { session = 0; statement = 39; line = replies.Tag (codes "SAVEPOINT") } ∷ record { session = 0; statement = 40; line = replies.Tag (codes "SAVEPOINT") } ∷ record { session = 0; statement = 41; line = replies.Tag (codes "SAVEPOINT") } ∷ record { session = 0; statement = 42; line = replies.Tag (codes "SAVEPOINT") } ∷ record { session = 0; statement = 43; line = replies.Tag (codes "SAVEPOINT") } ∷ record { session = 0; statement = 44; line = replies.Tag (codes "SAVEPOINT") } ∷ record { session = 0; statement = 45; line = replies.Tag (codes "SAVEPOINT") } ∷ record { session = 0; statement = 46; line = replies.Tag (codes "SAVEPOINT") } ∷ record { session = 0; statement = 47; line = replies.Tag (codes "SAVEPOINT") } ∷ record { session = 0; statement = 48; line = replies.Tag (codes "SAVEPOINT") } ∷ record { session = 0; statement = 49; line = replies.Tag (codes "SAVEPOINT") } ∷ record { session = 0; statement = 50; line = replies.Tag (codes "SAVEPOINT") } ∷ record { session = 0; statement = 51; line = replies.Tag (codes "SAVEPOINT") } ∷ record { session = 0; statement = 52; line = replies.Tag (codes "SAVEPOINT") } ∷ record { session = 0; statement = 53; line = replies.Tag (codes "SAVEPOINT") } ∷ record { session = 0; statement = 54; line = replies.Tag (codes "SAVEPOINT") } ∷ record { session = 0; statement = 55; line = replies.Tag (codes "SAVEPOINT") } ∷ record { session = 0; statement = 56; line = replies.Tag (codes "SAVEPOINT") } ∷ record { session = 0; statement = 57; line = replies.Tag (codes "SAVEPOINT") } ∷ record { session = 0; statement = 58; line = replies.Tag (codes "SAVEPOINT") } ∷ record { session = 0; statement = 59; line = replies.Tag (codes "SAVEPOINT") } ∷ record { session = 0; statement = 60; line = replies.Tag (codes "SAVEPOINT") } ∷ record { session = 0; statement = 61; line = replies.Tag (codes "SAVEPOINT") } ∷ record { session = 0; statement = 62; line = replies.Tag (codes "SAVEPOINT") } ∷ record { session = 0; statement = 63; line = replies.Tag (codes "SAVEPOINT") } ∷ record { session = 0; statement = 64; line = replies.Tag (codes "SAVEPOINT") } ∷ record { session = 0; statement = 65; line = replies.Tag (codes "INSERT 0 1") } ∷ record { session = 0; statement = 66; line = replies.Row ((values.Text (codes "caught")) ∷ (values.Int (pos 1)) ∷ []) } ∷ record { session = 0; statement = 66; line = replies.Tag (codes "SELECT 1") } ∷ record { session = 0; statement = 67; line = replies.Tag (codes "COMMIT") } ∷ [])
+unfolding block_is_the_65th-end run_from step effect effects_of plan_of error_effects row_step insert_step queued_by queued_by_statement child_check no_action_check restrict_check action_targets new_rows targets digits
+block_is_the_65th-replies = refl
+
+block_is_the_65th-tables : final_tables block_is_the_65th block_is_the_65th-end ≡ ([] ∷ (((values.Int (pos 1)) ∷ []) ∷ []) ∷ [] ∷ (((values.Text (codes "caught")) ∷ (values.Int (pos 1)) ∷ []) ∷ []) ∷ [])
+unfolding block_is_the_65th block_is_the_65th-end run_from step effect effects_of plan_of error_effects row_step insert_step queued_by queued_by_statement child_check no_action_check restrict_check action_targets new_rows targets
+block_is_the_65th-tables = refl

@@ -12,7 +12,7 @@ use Rattle.aq_base.specs.Works.Mark.{Named, Block}
 use Rattle.aq_base.specs.Rounds.{round_of}
 use Rattle.aq_base.specs.Statements.{Change_of_rows}
 use Rattle.aq_base.specs.Terms.{Term}
-use Rattle.aq_base.specs.Frames.{Frame, Next, Ahead, next_of}
+use Rattle.aq_base.specs.Frames.{Frame, Next, Ahead, next_of, entered}
 use Rattle.aq_base.specs.Frames.Next.{To_change, To_set, To_enter, To_raise, To_return, To_end, To_fault}
 use Rattle.aq_base.specs.declared.script.Kind.{Kind as Value_kind}
 use Rattle.aq_base.specs.declared.fault.SqlFault.{SqlFault}
@@ -99,11 +99,11 @@ change_plan schema view work event before change =
 
 -- ---- a block with handlers begins
 
-abbrev pub enter_plan : List Effect → ℕ → ℕ → List Saved → Plan
-enter_plan before height left saved =
+abbrev pub enter_plan : Event → Frame → List Effect → ℕ → ℕ → List Saved → Plan
+enter_plan event frame before height left saved =
     if nat_le saved_limit (length saved - left)
     then refused before too_many_saved
-    else Does_all (before ++ Saves (Block ((open_blocks saved - left) + 1) height) ∷ [])
+    else Does_all (before ++ Saves (Block ((open_blocks saved - left) + 1) height) ∷ Turns (Running event (entered frame)) ∷ [])
 
 -- ---- the step
 
@@ -115,25 +115,25 @@ abbrev pub first_number : List ℕ → ℕ
 first_number [] = 0
 first_number (number ∷ others) = number
 
-abbrev pub next_plan : Schema → Database → Transaction → Event → ℕ → Frame → List Effect → ℕ → Next → Plan
-next_plan schema view t event height frame before left (To_change change) = change_plan schema view t.work event before change
-next_plan schema view t event height frame before left (To_set set) =
+-- the body has come to its next doing, behind so many blocks that it has left
+abbrev pub next_plan : Schema → Database → Transaction → Event → ℕ → Frame → Frame → List Effect → ℕ → Next → Plan
+next_plan schema view t event height from frame before left (To_change change) = change_plan schema view t.work event before change
+next_plan schema view t event height from frame before left (To_set set) =
     set_plan schema before (is_deferring set.mode) set.constraints (set_fault schema (is_deferring set.mode) set.constraints)
-next_plan schema view t event height frame before left To_enter = enter_plan before height left t.saved
-next_plan schema view t event height frame before left (To_raise text) = refused before (raised text)
-next_plan schema view t event height frame before left To_return =
-    return_plan (first_number (numbers_of (round_of t.work.opened))) (length frame.blocks) t.saved
-next_plan schema view t event height frame before left To_end = refused before no_return
-next_plan schema view t event height frame before left (To_fault kind) = refused before (out_of_range kind)
+next_plan schema view t event height from frame before left To_enter = enter_plan event frame before height left t.saved
+next_plan schema view t event height from frame before left (To_raise text) = refused before (raised text)
+next_plan schema view t event height from frame before left To_return =
+    return_plan (first_number (numbers_of (round_of t.work.opened))) (length from.blocks) t.saved
+next_plan schema view t event height from frame before left To_end = refused before no_return
+next_plan schema view t event height from frame before left (To_fault kind) = refused before (out_of_range kind)
 
 -- how many blocks the body has left on its way
-abbrev pub blocks_left : Frame → Next → Frame → ℕ
-blocks_left frame To_enter ahead = (length frame.blocks + 1) - length ahead.blocks
-blocks_left frame _ ahead = length frame.blocks - length ahead.blocks
+abbrev pub blocks_left : Frame → Frame → ℕ
+blocks_left from frame = length from.blocks - length frame.blocks
 
 abbrev pub on_ahead : Schema → Database → Transaction → Event → ℕ → Frame → Ahead → Plan
-on_ahead schema view t event height frame ahead =
-    next_plan schema view t event height frame (going_on event ahead.frame (blocks_left frame ahead.next ahead.frame) t.saved) (blocks_left frame ahead.next ahead.frame) ahead.next
+on_ahead schema view t event height from ahead =
+    next_plan schema view t event height from ahead.frame (going_on event ahead.frame (blocks_left from ahead.frame) t.saved) (blocks_left from ahead.frame) ahead.next
 
 abbrev pub truth_in : Event → Term → Result Bool Value_kind
 truth_in event condition = condition_holds (around_event event) (Some condition)
