@@ -13,7 +13,7 @@ use Rattle.aq_base.specs.declared.trace.ModeOf.{ModeOf}
 use Rattle.aq_base.specs.declared.trace.ModeOf.TheVariants.{All, Named}
 use Rattle.aq_base.specs.declared.trace.TraceEvent.{TraceEvent}
 use Rattle.aq_base.specs.declared.trace.TraceLine.{TraceLine}
-use Rattle.aq_base.specs.declared.trace.TraceLine.TheVariants.{Begin, Open, Close, Change, Dropped, Queue, Round, Fire, Done, Mode, Savepoint, Release, Back, Wait, Victim, Missing, Pair, Fail, Drain, Commit, Abort, Reply, End}
+use Rattle.aq_base.specs.declared.trace.TraceLine.TheVariants.{Begin, Open, Close, Change, Dropped, Queue, Round, Fire, Done, Mode, Savepoint, Release, Back, Block, Unblock, Caught, Wait, Victim, Missing, Pair, Fail, Drain, Commit, Abort, Reply, End}
 use Rattle.aq_texts.specs.Rows.{line, row_text}
 use Rattle.aq_texts.specs.Written.{name_text}
 
@@ -32,6 +32,9 @@ trace_session (Mode session of mode) = session
 trace_session (Savepoint session name) = session
 trace_session (Release session name) = session
 trace_session (Back session name) = session
+trace_session (Block session block) = session
+trace_session (Unblock session block) = session
+trace_session (Caught session block code) = session
 trace_session (Wait session blockers) = session
 trace_session (Victim session cycle) = session
 trace_session (Missing session key database) = session
@@ -88,6 +91,9 @@ trace_words (Mode session of mode) = codes "mode " ++ constraints_words of ++ co
 trace_words (Savepoint session name) = codes "savepoint " ++ name_text name
 trace_words (Release session name) = codes "release " ++ name_text name
 trace_words (Back session name) = codes "back " ++ name_text name
+trace_words (Block session block) = codes "block " ++ decimal block
+trace_words (Unblock session block) = codes "unblock " ++ decimal block
+trace_words (Caught session block code) = codes "caught " ++ decimal block ++ codes " " ++ code.0
 trace_words (Wait session blockers) = codes "wait" ++ flat_map behind_blank blockers
 trace_words (Victim session cycle) = codes "victim" ++ flat_map behind_blank cycle
 trace_words (Missing session key database) = codes "missing " ++ row_text key ++ codes " " ++ decimal database
