@@ -1,5 +1,4 @@
 pub mod Written
-pub mod Canon
 pub mod Rows
 pub mod Replies
 pub mod Schedules
