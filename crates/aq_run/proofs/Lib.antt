@@ -2,3 +2,4 @@ pub mod Tables
 pub mod Worked
 mod Told_apart
 mod Schedules
+mod Printed

@@ -14,3 +14,4 @@ pub mod Errors
 pub mod Steps
 pub mod Runs
 pub mod Measure
+pub mod Texts
