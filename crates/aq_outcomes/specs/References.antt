@@ -146,6 +146,15 @@ abbrev pub defaults_at : List Column → List ℕ → Result Row Kind
 defaults_at cols [] = Ok []
 defaults_at cols (col ∷ others) = with_first (default_of (slice_get cols col)) (defaults_at cols others)
 
+-- values as the columns keep them
+abbrev pub kept_as : Option Column → Value → Result Value Kind
+kept_as None value = Ok value
+kept_as (Some col) value = stored value col.kind
+
+abbrev pub kept_at : List Column → List ℕ → Row → Result Row Kind
+kept_at cols (col ∷ others) (value ∷ values) = with_first (kept_as (slice_get cols col) value) (kept_at cols others values)
+kept_at cols _ _ = Ok []
+
 abbrev pub put_at : List ℕ → Row → Result Row Kind → Result Row Kind
 put_at cols row (Err kind) = Err kind
 put_at cols row (Ok values) = Ok (with_values cols values row)
@@ -155,7 +164,7 @@ abbrev pub action_wish : Schema → ForeignKey → Event → Action → Wish
 action_wish schema f event actions.Cascade =
     elim (event.op) [
       | ops.Delete ↦ To_delete
-      | ops.Update ↦ To_update (λ row. Ok (with_values f.child_cols (key_in f.parent_cols event.new) row))
+      | ops.Update ↦ To_update (λ row. put_at f.child_cols row (kept_at (columns schema f.child) f.child_cols (key_in f.parent_cols event.new)))
       | ops.Insert ↦ To_delete
     ]
 action_wish schema f event actions.SetDefault =

@@ -328,3 +328,53 @@ block_is_the_65th-replies = refl
 block_is_the_65th-tables : final_tables block_is_the_65th block_is_the_65th-end ≡ ([] ∷ (((values.Int (pos 1)) ∷ []) ∷ []) ∷ [] ∷ (((values.Text (codes "caught")) ∷ (values.Int (pos 1)) ∷ []) ∷ []) ∷ [])
 unfolding block_is_the_65th block_is_the_65th-end run_from step effect effects_of plan_of error_effects row_step insert_step queued_by queued_by_statement child_check no_action_check restrict_check action_targets new_rows targets
 block_is_the_65th-tables = refl
+
+-- A cascade keeps the parent's new key as the child's column does, or is refused.
+-- \setup
+-- CREATE TABLE p (id bigint PRIMARY KEY); CREATE TABLE c (pid integer REFERENCES p ON UPDATE CASCADE);
+-- \session a
+-- INSERT INTO p VALUES (1); INSERT INTO c VALUES (1); UPDATE p SET id = 2147483648; UPDATE p SET id = 2147483647;
+unfoldable pub cascade_out_of_range : Program
+cascade_out_of_range =
+    record {
+      schema = record {
+        catalog = record {
+          tables = (record { name = codes "p"; cols = (record { name = codes "id"; kind = kinds.Bigint; default = values.Null } ∷ []); not_null = (0 ∷ []) } ∷ record { name = codes "c"; cols = (record { name = codes "pid"; kind = kinds.Integer; default = values.Null } ∷ []); not_null = [] } ∷ []);
+          keys = (record { name = codes "p_pkey"; table = 0; cols = (0 ∷ []) } ∷ []);
+          primaries = (0 ∷ []);
+          fks = (record { name = codes "c_pid_fkey"; child = 1; child_cols = (0 ∷ []); parent = 0; parent_cols = (0 ∷ []); full = false; on_delete = actions.NoAction; on_update = actions.Cascade; con = 1; set_cols = (0 ∷ []) } ∷ []);
+          constraints = (record { name = codes "p_pkey"; table = 0; decl = record { deferrable = false; deferred = false } } ∷ record { name = codes "c_pid_fkey"; table = 1; decl = record { deferrable = false; deferred = false } } ∷ []);
+          functions = [];
+          triggers = (record { name = codes "RI_ConstraintTrigger_a_0000000001"; table = 0; ops = (ops.Delete ∷ []); cols = ([]); level = each.Row; condition = None; con = (Some 1); does = Parent 0; old_table = None; new_table = None } ∷ record { name = codes "RI_ConstraintTrigger_a_0000000001"; table = 0; ops = (ops.Update ∷ []); cols = ([]); level = each.Row; condition = None; con = None; does = Parent 0; old_table = None; new_table = None } ∷ record { name = codes "RI_ConstraintTrigger_c_0000000001"; table = 1; ops = (ops.Insert ∷ ops.Update ∷ []); cols = ([]); level = each.Row; condition = None; con = (Some 1); does = Check 0; old_table = None; new_table = None } ∷ []);
+        };
+        conditions = (None ∷ None ∷ None ∷ []);
+        codes = ([] ∷ [] ∷ [] ∷ []);
+        rules = [];
+      };
+      names = (codes "a" ∷ []);
+      statements = (((Ready (Changes_rows (Inserts (record { table = 0; columns = None; source = Values (((Value_of (Constant (values.Int (pos 1)))) ∷ []) ∷ []) })))) ∷ (Ready (Changes_rows (Inserts (record { table = 1; columns = None; source = Values (((Value_of (Constant (values.Int (pos 1)))) ∷ []) ∷ []) })))) ∷ (Ready (Changes_rows (Updates (record { table = 0; assignments = (record { column = 0; value = (Value_of (Constant (values.Int (pos 2147483648)))) } ∷ []); condition = None })))) ∷ (Ready (Changes_rows (Updates (record { table = 0; assignments = (record { column = 0; value = (Value_of (Constant (values.Int (pos 2147483647)))) } ∷ []); condition = None })))) ∷ []) ∷ []);
+    }
+
+cascade_out_of_range-end : State
+unfolding cascade_out_of_range run_from step effect effects_of plan_of error_effects row_step insert_step queued_by queued_by_statement child_check no_action_check restrict_check action_targets new_rows targets
+cascade_out_of_range-end = run cascade_out_of_range (replicate 30 0)
+
+cascade_out_of_range-ended : have_all_ended cascade_out_of_range-end ≡ true
+unfolding cascade_out_of_range-end run_from step effect effects_of plan_of error_effects row_step insert_step queued_by queued_by_statement child_check no_action_check restrict_check action_targets new_rows targets
+cascade_out_of_range-ended = refl
+
+cascade_out_of_range-not_before : have_all_ended (run cascade_out_of_range (replicate 29 0)) ≡ false
+unfolding cascade_out_of_range run_from step effect effects_of plan_of error_effects row_step insert_step queued_by queued_by_statement child_check no_action_check restrict_check action_targets new_rows targets
+cascade_out_of_range-not_before = refl
+
+cascade_out_of_range-replies : cascade_out_of_range-end.world.replies ≡ (record { session = 0; statement = 1; line = replies.Tag (codes "INSERT 0 1") } ∷ record { session = 0; statement = 2; line = replies.Tag (codes "INSERT 0 1") } ∷ record { session = 0; statement = 3; line = replies.Error (record { 0 = codes "22003" }) (codes "integer out of range") } ∷ record { session = 0; statement = 4; line = replies.Tag (codes "UPDATE 1") } ∷ [])
+unfolding cascade_out_of_range-end run_from step effect effects_of plan_of error_effects row_step insert_step queued_by queued_by_statement child_check no_action_check restrict_check action_targets new_rows targets digits
+cascade_out_of_range-replies = refl
+
+cascade_out_of_range-tables : final_tables cascade_out_of_range cascade_out_of_range-end ≡ ((((values.Int (pos 2147483647)) ∷ []) ∷ []) ∷ (((values.Int (pos 2147483647)) ∷ []) ∷ []) ∷ [])
+unfolding cascade_out_of_range cascade_out_of_range-end run_from step effect effects_of plan_of error_effects row_step insert_step queued_by queued_by_statement child_check no_action_check restrict_check action_targets new_rows targets
+cascade_out_of_range-tables = refl
+
+cascade_out_of_range-trace : cascade_out_of_range-end.world.trace ≡ (traces.Begin (codes "a") isolations.ReadCommitted ∷ traces.Open (codes "a") 1 ∷ traces.Change (codes "a") (codes "p") 1 None (Some ((values.Int (pos 1)) ∷ [])) [] ∷ traces.Close (codes "a") 1 ∷ traces.Drain (codes "a") ∷ traces.Commit (codes "a") 1 ∷ traces.Reply (codes "a") 1 ∷ traces.Begin (codes "a") isolations.ReadCommitted ∷ traces.Open (codes "a") 1 ∷ traces.Change (codes "a") (codes "c") 2 None (Some ((values.Int (pos 1)) ∷ [])) (record { no = 1; trigger = codes "RI_ConstraintTrigger_c_0000000001" } ∷ []) ∷ traces.Round (codes "a") ∷ traces.Fire (codes "a") 1 ∷ traces.Done (codes "a") 1 endings.Passed ∷ traces.Close (codes "a") 1 ∷ traces.Drain (codes "a") ∷ traces.Commit (codes "a") 2 ∷ traces.Reply (codes "a") 2 ∷ traces.Begin (codes "a") isolations.ReadCommitted ∷ traces.Open (codes "a") 1 ∷ traces.Change (codes "a") (codes "p") 1 (Some ((values.Int (pos 1)) ∷ [])) (Some ((values.Int (pos 2147483648)) ∷ [])) (record { no = 1; trigger = codes "RI_ConstraintTrigger_a_0000000001" } ∷ []) ∷ traces.Round (codes "a") ∷ traces.Fire (codes "a") 1 ∷ traces.Fail (codes "a") (record { 0 = codes "22003" }) ∷ traces.Abort (codes "a") ∷ traces.Reply (codes "a") 3 ∷ traces.Begin (codes "a") isolations.ReadCommitted ∷ traces.Open (codes "a") 1 ∷ traces.Change (codes "a") (codes "p") 1 (Some ((values.Int (pos 1)) ∷ [])) (Some ((values.Int (pos 2147483647)) ∷ [])) (record { no = 1; trigger = codes "RI_ConstraintTrigger_a_0000000001" } ∷ []) ∷ traces.Round (codes "a") ∷ traces.Fire (codes "a") 1 ∷ traces.Change (codes "a") (codes "c") 2 (Some ((values.Int (pos 1)) ∷ [])) (Some ((values.Int (pos 2147483647)) ∷ [])) (record { no = 2; trigger = codes "RI_ConstraintTrigger_c_0000000001" } ∷ []) ∷ traces.Done (codes "a") 1 (endings.Acted 1) ∷ traces.Round (codes "a") ∷ traces.Fire (codes "a") 2 ∷ traces.Done (codes "a") 2 endings.Passed ∷ traces.Close (codes "a") 1 ∷ traces.Drain (codes "a") ∷ traces.Commit (codes "a") 3 ∷ traces.Reply (codes "a") 4 ∷ traces.End (codes "a") ∷ [])
+unfolding cascade_out_of_range-end run_from step effect effects_of plan_of error_effects row_step insert_step queued_by queued_by_statement child_check no_action_check restrict_check action_targets new_rows targets
+cascade_out_of_range-trace = refl
