@@ -1,4 +1,5 @@
 pub mod Tables
+pub mod Effected
 pub mod Worked
 mod Told_apart
 mod Schedules
