@@ -1,5 +1,5 @@
 -- The data of each form of a bound tree, from those of its parts.
-use Rattle.std.proofs.Common.{◌≡◌, ℕ, List, [], ◌∷◌, map, option_map, Option, sym, ap, ◌∙◌, refl}
+use Rattle.std.proofs.Common.{◌≡◌, ℕ, List, [], ◌∷◌, map, option_map, Option, Some, None, sym, ap, ◌∙◌}
 use Rattle.aq_base.specs.Names.{Text}
 use Rattle.aq_base.specs.declared.value.Value.{Value}
 use Rattle.aq_base.specs.declared.expr.UnaryOperator.{UnaryOperator}
@@ -50,8 +50,10 @@ else_if_code = fold-BoundElseIf Code (Term × Code) Handler code_step else_if_st
 
 pub if_code : (condition : BoundExpr) (then_ : List BoundBodyStatement) (else_ifs : List BoundElseIf) (otherwise : Option (List BoundBodyStatement)) →
     statement_code (bodies.If condition then_ else_ifs otherwise) ≡ choice_code (term_of condition) (joined (map statement_code then_)) (choices_code (map else_if_code else_ifs) (joined_in (option_map (map statement_code) otherwise)))
-if_code condition then_ else_ifs otherwise =
-    ap statement_code (sym (bodies.rolls-If condition then_ else_ifs otherwise)) ∙ fold-roll-BoundBodyStatement Code (Term × Code) Handler code_step else_if_step handler_step _
+if_code condition then_ else_ifs None =
+    ap statement_code (sym (bodies.rolls-If condition then_ else_ifs None)) ∙ fold-roll-BoundBodyStatement Code (Term × Code) Handler code_step else_if_step handler_step _
+if_code condition then_ else_ifs (Some last) =
+    ap statement_code (sym (bodies.rolls-If condition then_ else_ifs (Some last))) ∙ fold-roll-BoundBodyStatement Code (Term × Code) Handler code_step else_if_step handler_step _
 
 pub raise_code : (text : Text) → statement_code (bodies.Raise text) ≡ Raises text ∷ []
 raise_code text =
