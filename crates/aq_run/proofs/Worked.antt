@@ -262,6 +262,7 @@ match_full-tables : final_tables match_full match_full-end ≡ ([] ∷ ((values.
 unfolding match_full match_full-end run_from step effect effects_of plan_of error_effects row_step insert_step queued_by queued_by_statement child_check no_action_check restrict_check action_targets new_rows targets
 match_full-tables = refl
 
+-- NO ACTION looks for another parent row with the old key.
 -- \setup
 -- CREATE TABLE p (id integer PRIMARY KEY);CREATE TABLE c (pid integer REFERENCES p DEFERRABLE INITIALLY DEFERRED);
 -- \session a
@@ -442,6 +443,7 @@ skipped_check-tables : final_tables skipped_check skipped_check-end ≡ ([] ∷ 
 unfolding skipped_check skipped_check-end run_from step effect effects_of plan_of error_effects row_step insert_step queued_by queued_by_statement child_check no_action_check restrict_check action_targets new_rows targets
 skipped_check-tables = refl
 
+-- A check that fired after a savepoint waits again once the transaction has returned to it.
 -- \setup
 -- CREATE TABLE p (id integer PRIMARY KEY);CREATE TABLE c (pid integer REFERENCES p DEFERRABLE INITIALLY DEFERRED);
 -- \session a
@@ -487,6 +489,7 @@ check_waits_again-tables : final_tables check_waits_again check_waits_again-end 
 unfolding check_waits_again check_waits_again-end run_from step effect effects_of plan_of error_effects row_step insert_step queued_by queued_by_statement child_check no_action_check restrict_check action_targets new_rows targets
 check_waits_again-tables = refl
 
+-- A return puts the modes of constraints back.
 -- \setup
 -- CREATE TABLE p (id integer PRIMARY KEY);CREATE TABLE c (pid integer REFERENCES p DEFERRABLE INITIALLY DEFERRED);
 -- \session a
@@ -532,6 +535,7 @@ modes_put_back-tables : final_tables modes_put_back modes_put_back-end ≡ ((((v
 unfolding modes_put_back modes_put_back-end run_from step effect effects_of plan_of error_effects row_step insert_step queued_by queued_by_statement child_check no_action_check restrict_check action_targets new_rows targets
 modes_put_back-tables = refl
 
+-- A return gives an upgraded lock back and keeps the weaker one: b waits no longer than for KEY SHARE's holder to end.
 -- \setup
 -- CREATE TABLE p (id integer PRIMARY KEY);
 -- \session a
@@ -580,6 +584,7 @@ lock_given_back-tables : final_tables lock_given_back lock_given_back-end ≡ ([
 unfolding lock_given_back lock_given_back-end run_from step effect effects_of plan_of error_effects row_step insert_step queued_by queued_by_statement child_check no_action_check restrict_check action_targets new_rows targets
 lock_given_back-tables = refl
 
+-- A Repeatable Read transaction looks for children in the latest database, not in its snapshot.
 -- \setup
 -- CREATE TABLE p (id integer PRIMARY KEY);CREATE TABLE c (pid integer REFERENCES p );
 -- \session a
@@ -724,6 +729,7 @@ cascade_waits-tables : final_tables cascade_waits cascade_waits-end ≡ ((((valu
 unfolding cascade_waits cascade_waits-end run_from step effect effects_of plan_of error_effects row_step insert_step queued_by queued_by_statement child_check no_action_check restrict_check action_targets new_rows targets
 cascade_waits-tables = refl
 
+-- A wait that would close a cycle is refused.
 -- \setup
 -- CREATE TABLE p (id integer PRIMARY KEY, v integer);
 -- \session a
@@ -826,6 +832,7 @@ settling_in_the_drain-trace : settling_in_the_drain-end.world.trace ≡ (traces.
 unfolding settling_in_the_drain-end run_from step effect effects_of plan_of error_effects row_step insert_step queued_by queued_by_statement child_check no_action_check restrict_check action_targets new_rows targets
 settling_in_the_drain-trace = refl
 
+-- The changes of an action stand at the level at which its event fires: one transition table holds them all.
 -- \setup
 -- CREATE TABLE node (id integer PRIMARY KEY, up integer REFERENCES node ON DELETE CASCADE); CREATE TABLE log (id integer);CREATE FUNCTION f() RETURNS trigger LANGUAGE plpgsql AS $$ BEGIN INSERT INTO log SELECT id FROM gone; RETURN NULL; END $$;CREATE TRIGGER s AFTER DELETE ON node REFERENCING OLD TABLE AS gone FOR EACH STATEMENT EXECUTE FUNCTION f();
 -- \session a
