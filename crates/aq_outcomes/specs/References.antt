@@ -1,5 +1,5 @@
 -- The checks and the actions of a foreign key (PostgreSQL source, ri_triggers.c).
-use Rattle.std.specs.Prelude.{ℕ, Bool, false, not, ◌&&◌, ◌==◌, List, [], ◌∷◌, map, Option, Some, None, Result, Ok, Err, if◌then◌else◌, unwrap_or, slice_get, slice_set}
+use Rattle.std.specs.Prelude.{ℕ, Bool, false, not, ◌&&◌, ◌==◌, List, [], ◌∷◌, map, Option, Some, None, Result, Ok, Err, unwrap_or, slice_get, slice_set, true}
 use Rattle.aq_base.specs.Values.{Row, values_at, keys_match}
 use Rattle.aq_base.specs.Maps.{at}
 use Rattle.aq_base.specs.Databases.{Database, Stored, rows_with_key, has_key, last_database}
@@ -54,9 +54,12 @@ abbrev pub is_live : Party → Event → Bool
 is_live party event = is_write event.write (own_write event.row party)
 
 -- somebody stands in the way of the lock, or the lock is taken
+abbrev pub unless_held : List ℕ → ℕ → Checked → Checked
+unless_held [] row next = next
+unless_held (blocker ∷ blockers) row next = Waits_for (For_row row modes.KeyShare)
+
 abbrev pub locking : Around → Party → ℕ → Checked → Checked
-locking around party row next =
-    elim (row_blockers party.session around.holdings row modes.KeyShare) [ [] ↦ next | blocker ∷ blockers ↦ Waits_for (For_row row modes.KeyShare) ]
+locking around party row next = unless_held (row_blockers party.session around.holdings row modes.KeyShare) row next
 
 abbrev pub still_has : ForeignKey → Row → Option Stored → Bool
 still_has f key None = false
@@ -68,9 +71,13 @@ has_gone around party f key row None = false
 has_gone around party f key row (Some number) =
     not (has_written row party.writes) && not (still_has f key (at row (last_database around.history)))
 
+abbrev pub unless_gone : Bool → Checked → Checked
+unless_gone true next = Changed
+unless_gone false next = next
+
 abbrev pub with_parent : Around → Party → ForeignKey → Row → ℕ → Checked
 with_parent around party f key row =
-    locking around party row (if has_gone around party f key row party.fixed then Changed else Passes (Some row))
+    locking around party row (unless_gone (has_gone around party f key row party.fixed) (Passes (Some row)))
 
 abbrev pub on_parents : Around → Party → ForeignKey → Row → Database → Checked
 on_parents around party f key [] = Missing key (seen_number around party.fixed)
@@ -79,13 +86,26 @@ on_parents around party f key (parent ∷ others) = with_parent around party f k
 abbrev pub look_for_parent : Around → Party → ForeignKey → Row → Checked
 look_for_parent around party f key = on_parents around party f key (rows_with_key f.parent f.parent_cols key (seen around party))
 
+-- a mixture of nulls and values is refused under MATCH FULL; a key that refers to nothing passes; a version that isn't the newest is skipped
+abbrev pub unless_mixed : Bool → Checked → Checked
+unless_mixed true next = Mixed
+unless_mixed false next = next
+
+abbrev pub where_reference : Bool → Checked → Checked
+where_reference true next = next
+where_reference false next = Passes None
+
+abbrev pub where_live : Bool → Checked → Checked
+where_live true next = next
+where_live false next = Skips
+
 abbrev pub check_key : Around → Party → ForeignKey → Row → Checked
 check_key around party f key =
-    if f.full && is_mixture key then Mixed else (if is_reference f.full key then look_for_parent around party f key else Passes None)
+    unless_mixed (f.full && is_mixture key) (where_reference (is_reference f.full key) (look_for_parent around party f key))
 
 unfoldable pub child_check : Around → Party → ForeignKey → Event → Checked
 child_check around party f event =
-    if is_live party event then check_key around party f (key_in f.child_cols event.new) else Skips
+    where_live (is_live party event) (check_key around party f (key_in f.child_cols event.new))
 
 -- ---- the check of a parent row: NO ACTION looks for another parent with the old key first, RESTRICT doesn't
 

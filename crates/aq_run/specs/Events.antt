@@ -1,6 +1,6 @@
 -- The rounds of levels, of SET CONSTRAINTS and of the drain, and the steps of their events (PostgreSQL source, trigger.c,
 -- afterTriggerInvokeEvents; ri_triggers.c).
-use Rattle.std.specs.Prelude.{ℕ, ◌+◌, Bool, ◌||◌, List, [], ◌∷◌, ◌++◌, Option, Some, None, if◌then◌else◌, is_some, slice_get}
+use Rattle.std.specs.Prelude.{ℕ, ◌+◌, Bool, ◌||◌, List, [], ◌∷◌, ◌++◌, Option, Some, None, if◌then◌else◌, is_some, slice_get, true, false}
 use Rattle.aq_base.specs.Values.{Row}
 use Rattle.aq_base.specs.Names.{Text}
 use Rattle.aq_base.specs.Rules.{Rule, is_kept}
@@ -83,10 +83,8 @@ new_of None = []
 new_of (Some row) = row
 
 abbrev pub rule_plan : Event → Text → Bool → Plan
-rule_plan event name kept =
-    if kept
-    then Does_all (Fires event.number None ∷ Finishes event.number endings.Passed ∷ [])
-    else refused (Fires event.number None ∷ []) (rule_broken name (new_of event.new))
+rule_plan event name true = Does_all (Fires event.number None ∷ Finishes event.number endings.Passed ∷ [])
+rule_plan event name false = refused (Fires event.number None ∷ []) (rule_broken name (new_of event.new))
 
 abbrev pub native_plan : Event → Text → Option Rule → Plan
 native_plan event name None = passing event

@@ -1,5 +1,5 @@
 -- Row steps of a statement, of an action and of a locking SELECT, and what comes when no target is left.
-use Rattle.std.specs.Prelude.{ℕ, ◌+◌, Bool, false, List, [], ◌∷◌, ◌++◌, length, Option, Some, None, Result, Ok, Err, if◌then◌else◌, nat_le, nat_lt}
+use Rattle.std.specs.Prelude.{ℕ, ◌+◌, Bool, false, List, [], ◌∷◌, ◌++◌, length, Option, Some, None, Result, Ok, Err, nat_le, nat_lt, true}
 use Rattle.aq_base.specs.Values.{Row}
 use Rattle.aq_base.specs.Limits.{change_limit, event_limit}
 use Rattle.aq_base.specs.Writes.{has_written}
@@ -34,7 +34,8 @@ abbrev pub has_room : Transaction → List ℕ → Bool
 has_room t triggers = nat_le (t.events + length triggers) event_limit
 
 abbrev pub with_room : Bool → Plan → Plan
-with_room room plan = if room then plan else refused [] too_many_events
+with_room true plan = plan
+with_room false plan = refused [] too_many_events
 
 abbrev pub on_triggers : Transaction → (List ℕ → List Effect) → Result (List ℕ) Value_kind → Plan
 on_triggers t effects (Err kind) = refused [] (out_of_range kind)
@@ -48,11 +49,14 @@ wrote_old t change = written_before t change.row
     written_before t None = false
     written_before t (Some row) = has_written row t.work.writes
 
+abbrev pub within_changes : Bool → Plan → Plan
+within_changes true plan = plan
+within_changes false plan = refused [] too_many_changes
+
 abbrev pub changing : Schema → Transaction → List ℕ → Change → Option LockMode → Task → Plan
 changing schema t set change lock next =
-    if nat_lt t.changes change_limit
-    then on_triggers t (λ triggers. Changes change lock triggers ∷ Turns next ∷ []) (queued_by schema change set (wrote_old t change))
-    else refused [] too_many_changes
+    within_changes (nat_lt t.changes change_limit)
+    (on_triggers t (λ triggers. Changes change lock triggers ∷ Turns next ∷ []) (queued_by schema change set (wrote_old t change)))
 
 -- the task as it goes on where the row was changed, where it was locked, and where it was passed over
 abbrev pub on_outcome : Schema → Transaction → List ℕ → Task → (Row → Task) → Task → Outcome → Plan
