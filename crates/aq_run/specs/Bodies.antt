@@ -1,5 +1,5 @@
 -- One step of a body (PostgreSQL manual, chapter "PL/pgSQL"; PostgreSQL source, pl_exec.c).
-use Rattle.std.specs.Prelude.{ℕ, ◌+◌, ◌-◌, Bool, true, false, not, List, [], ◌∷◌, ◌++◌, length, map, filter, Option, Some, None, Result, if◌then◌else◌, nat_le, nat_lt, slice_get}
+use Rattle.std.specs.Prelude.{ℕ, ◌+◌, ◌-◌, Bool, true, false, not, List, [], ◌∷◌, ◌++◌, length, map, filter, Option, Some, None, Result, if◌then◌else◌, nat_le, slice_get, zero, suc}
 use Rattle.std.specs.List.{list_any}
 use Rattle.aq_base.specs.Names.{Text}
 use Rattle.aq_base.specs.Limits.{saved_limit, level_limit}
@@ -23,13 +23,13 @@ use Rattle.aq_expr.specs.Evaluation.{Surroundings}
 use Rattle.aq_setup.specs.Catalogs.{constraints_named}
 use Rattle.aq_outcomes.specs.Schemas.{Schema, code_at}
 use Rattle.aq_outcomes.specs.Queued.{condition_holds}
-use Rattle.aq_outcomes.specs.Faults.{out_of_range, raised, no_return, no_constraint, not_deferrable, too_many_levels, too_many_saved}
+use Rattle.aq_outcomes.specs.Faults.{out_of_range, raised, no_return, no_constraint, not_deferrable, too_many_levels}
 use Rattle.aq_run.specs.States.{Transaction}
 use Rattle.aq_run.specs.States.Place.{In_body}
 use Rattle.aq_run.specs.States.Task.{Changing, Settling, Running}
 use Rattle.aq_run.specs.Effects.{Effect}
 use Rattle.aq_run.specs.Effects.Effect.{Turns, Opens, Finishes, Sets_mode, Saves, Releases}
-use Rattle.aq_run.specs.Starts.{is_deferring, change_targets, targets_or_fault}
+use Rattle.aq_run.specs.Starts.{is_deferring, unless_full, change_targets, targets_or_fault}
 use Rattle.aq_run.specs.Plans.{Plan, refused}
 use Rattle.aq_run.specs.Plans.Plan.{Does_all}
 
@@ -48,7 +48,8 @@ open_blocks saved = length (filter is_block saved)
 
 -- so many blocks are left
 abbrev pub leaving : ℕ → List Saved → List Effect
-leaving left saved = if nat_lt 0 left then Releases (length saved - left) ∷ [] else []
+leaving zero saved = []
+leaving (suc left) saved = Releases (length saved - suc left) ∷ []
 
 -- what comes before a body's next doing: the blocks that it has left, and its place behind that
 abbrev pub going_on : Event → Frame → ℕ → List Saved → List Effect
@@ -91,19 +92,21 @@ set_plan schema before deferred names None = Does_all (before ++ (set_effects sc
 
 -- ---- a statement that changes rows opens a level and fixes its targets
 
+abbrev pub unless_deep : Bool → List Effect → Plan → Plan
+unless_deep true before plan = refused before too_many_levels
+unless_deep false before plan = plan
+
 abbrev pub change_plan : Schema → Database → Work → Event → List Effect → Change_of_rows → Plan
 change_plan schema view work event before change =
-    if nat_le level_limit (level_of work)
-    then refused before too_many_levels
-    else (targets_or_fault before (λ found. Opens Level (Changing In_body found 0) ∷ []) (change_targets schema (around_event event) view (set_at event.set work.sets) change))
+    unless_deep (nat_le level_limit (level_of work)) before
+    (targets_or_fault before (λ found. Opens Level (Changing In_body found 0) ∷ []) (change_targets schema (around_event event) view (set_at event.set work.sets) change))
 
 -- ---- a block with handlers begins
 
 abbrev pub enter_plan : Event → Frame → List Effect → ℕ → ℕ → List Saved → Plan
 enter_plan event frame before height left saved =
-    if nat_le saved_limit (length saved - left)
-    then refused before too_many_saved
-    else Does_all (before ++ Saves (Block ((open_blocks saved - left) + 1) height) ∷ Turns (Running event (entered frame)) ∷ [])
+    unless_full (nat_le saved_limit (length saved - left)) before
+    (Does_all (before ++ Saves (Block ((open_blocks saved - left) + 1) height) ∷ Turns (Running event (entered frame)) ∷ []))
 
 -- ---- the step
 

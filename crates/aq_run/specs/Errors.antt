@@ -1,6 +1,6 @@
 -- What an error does: a block of a body in progress catches it, or it is the statement's reply, and the latest savepoint's copy is put back
 -- or the transaction is dropped (PostgreSQL source, xact.c, AbortCurrentTransaction; pl_exec.c, exec_stmt_block).
-use Rattle.std.specs.Prelude.{ℕ, ◌+◌, ◌-◌, List, [], ◌∷◌, ◌++◌, length, Option, Some, None, if◌then◌else◌}
+use Rattle.std.specs.Prelude.{ℕ, ◌+◌, ◌-◌, List, [], ◌∷◌, ◌++◌, length, Option, Some, None, Bool, true, false}
 use Rattle.aq_base.specs.Names.{Text}
 use Rattle.aq_base.specs.Works.{Saved}
 use Rattle.aq_base.specs.Works.Mark.{Named, Block}
@@ -39,8 +39,12 @@ catcher_from schema error above (Running event frame ∷ below) =
     ]
 catcher_from schema error above (task ∷ below) = catcher_from schema error above below
 
+abbrev pub where_caught : Bool → Option Catcher → Option Catcher
+where_caught true catcher = catcher
+where_caught false catcher = None
+
 abbrev pub catcher_of : Schema → Fault → List Task → Option Catcher
-catcher_of schema fault tasks = if fault.can_be_caught then catcher_from schema fault.told.code.0 0 tasks else None
+catcher_of schema fault tasks = where_caught fault.can_be_caught (catcher_from schema fault.told.code.0 0 tasks)
 
 -- ---- no block catches it
 

@@ -73,12 +73,16 @@ abbrev pub place_of : Text → List Saved → Option ℕ
 place_of name [] = None
 place_of name (saved ∷ others) = if is_named name saved then Some (length others) else place_of name others
 
+-- no more than so many copies stand together
+abbrev pub unless_full : Bool → List Effect → Plan → Plan
+unless_full true before plan = refused before too_many_saved
+unless_full false before plan = plan
+
 abbrev pub savepoint_plan : Block_state → Text → List Saved → Plan
 savepoint_plan Idle name saved = refused (Takes_statement ∷ []) (only_in_block (codes "SAVEPOINT"))
 savepoint_plan Open name saved =
-    if nat_le saved_limit (length saved)
-    then refused (Takes_statement ∷ []) too_many_saved
-    else Does_all (Takes_statement ∷ Saves (Named name) ∷ Replies (tag (codes "SAVEPOINT")) ∷ [])
+    unless_full (nat_le saved_limit (length saved)) (Takes_statement ∷ [])
+    (Does_all (Takes_statement ∷ Saves (Named name) ∷ Replies (tag (codes "SAVEPOINT")) ∷ []))
 savepoint_plan Failed name saved = refused (Takes_statement ∷ []) failed_block
 
 abbrev pub on_release : Text → Option ℕ → Plan
@@ -125,10 +129,14 @@ set_plan Failed s = refused (Takes_statement ∷ []) failed_block
 -- ---- statements on rows
 
 -- a Repeatable Read transaction reads at the number that is last at its first statement on rows, also where that is refused
+abbrev pub snapshot_for : Isolation → Option ℕ → List Effect
+snapshot_for ReadCommitted snapshot = []
+snapshot_for RepeatableRead None = Fixes_snapshot ∷ []
+snapshot_for RepeatableRead (Some number) = []
+
 abbrev pub snapshot_effects : Option Transaction → List Effect
 snapshot_effects None = []
-snapshot_effects (Some t) =
-    elim (t.isolation) [ ReadCommitted ↦ [] | RepeatableRead ↦ elim (t.snapshot) [ None ↦ Fixes_snapshot ∷ [] | Some number ↦ [] ] ]
+snapshot_effects (Some t) = snapshot_for t.isolation t.snapshot
 
 -- what comes before the statement's own doing. Outside a block a statement that changes or locks rows has a transaction of its own.
 abbrev pub before_change : Block_state → Option Transaction → List Effect

@@ -1,5 +1,5 @@
 -- One step of a session. The innermost task decides which kind of step it is.
-use Rattle.std.specs.Prelude.{ℕ, zero, suc, Bool, true, false, List, [], ◌∷◌, ◌++◌, length, Option, Some, None, if◌then◌else◌, nat_lt, slice_set, codes}
+use Rattle.std.specs.Prelude.{ℕ, zero, suc, Bool, true, false, List, [], ◌∷◌, ◌++◌, length, Option, Some, None, nat_lt, slice_set, codes}
 use Rattle.aq_base.specs.Limits.{step_limit}
 use Rattle.aq_base.specs.Works.{Work}
 use Rattle.aq_base.specs.Rounds.{round_of}
@@ -100,13 +100,14 @@ is_counted work (Acting left done) = has_any left
 is_counted work (Rechecking done) = false
 is_counted work (Running event frame) = true
 
-abbrev pub within_limit : Bool → ℕ → Plan → Plan
-within_limit counted steps plan =
-    if counted then (if nat_lt steps step_limit then plan else Fails [] (final too_many_steps)) else plan
+-- counted, and whether a step is left
+abbrev pub within_limit : Bool → Bool → Plan → Plan
+within_limit true false plan = Fails [] (final too_many_steps)
+within_limit _ _ plan = plan
 
 abbrev pub limited_plan : Program → State → ℕ → Session → Option Prepared → Task → List Task → Transaction → Plan
 limited_plan program st s me statement task below t =
-    within_limit (is_counted t.work task) t.steps (task_plan program st s me t statement task below)
+    within_limit (is_counted t.work task) (nat_lt t.steps step_limit) (task_plan program st s me t statement task below)
 
 abbrev pub on_transaction : Option Transaction → (Transaction → Plan) → Plan
 on_transaction None plan = nothing
@@ -128,8 +129,12 @@ is_counted_with (Some t) (task ∷ below) = is_counted t.work task
 is_counted_with _ _ = false
 
 -- a step that waits isn't counted
+abbrev pub count_effects : Bool → List Effect
+count_effects true = Counts_step ∷ []
+count_effects false = []
+
 abbrev pub counting : Session → List Effect
-counting me = if is_counted_with me.transaction me.tasks then Counts_step ∷ [] else []
+counting me = count_effects (is_counted_with me.transaction me.tasks)
 
 abbrev pub scene_of : State → ℕ → Scene
 scene_of st s = record { world = st.world; me = session_at st s }
