@@ -1,5 +1,10 @@
 pub mod Tables
 pub mod Effected
+pub mod Free_rows
+pub mod Free_plans
+pub mod Free_events
+pub mod Free_starts
+pub mod Free_steps
 pub mod Worked
 mod Told_apart
 mod Schedules

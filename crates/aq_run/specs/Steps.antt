@@ -5,6 +5,7 @@ use Rattle.aq_base.specs.Works.{Work}
 use Rattle.aq_base.specs.Rounds.{round_of}
 use Rattle.aq_base.specs.Frames.{change_before}
 use Rattle.aq_base.specs.Blockers.{Ask}
+use Rattle.aq_base.specs.declared.data.LockMode.{LockMode}
 use Rattle.aq_base.specs.Statements.{Change_of_rows, Select}
 use Rattle.aq_base.specs.Statements.Statement.{Changes_rows, Selects}
 use Rattle.aq_expr.specs.Evaluation.{Surroundings, nothing_around}
@@ -61,8 +62,16 @@ at_work schema statement In_body below = in_body_below schema below
 
 -- ---- the kinds of step
 
+abbrev pub with_change_at : (Surroundings → Change_of_rows → Plan) → Surroundings → Option Change_of_rows → Plan
+with_change_at plan around None = nothing
+with_change_at plan around (Some change) = plan around change
+
 abbrev pub on_change : (Surroundings → Change_of_rows → Plan) → At_work → Plan
-on_change plan work = elim (work.change) [ None ↦ nothing | Some change ↦ plan work.around change ]
+on_change plan work = with_change_at plan work.around work.change
+
+abbrev pub with_mode : (LockMode → Plan) → Option LockMode → Plan
+with_mode plan None = nothing
+with_mode plan (Some mode) = plan mode
 
 abbrev pub on_select : (Select → Plan) → Option Prepared → Plan
 on_select plan (Some (Ready (Selects s))) = plan s
@@ -72,7 +81,7 @@ abbrev pub task_plan : Program → State → ℕ → Session → Transaction →
 task_plan program st s me t statement (Changing place left done) below =
     on_change (λ env change. changing_plan program.schema (around st) (party s t) t env change place left done) (at_work program.schema statement place below)
 task_plan program st s me t statement (Locking left found) below =
-    on_select (λ select. elim (select.lock) [ None ↦ nothing | Some mode ↦ locking_plan program.schema (around st) (party s t) me.block select mode left found ]) statement
+    on_select (λ select. with_mode (λ mode. locking_plan program.schema (around st) (party s t) me.block select mode left found) select.lock) statement
 task_plan program st s me t statement (Rounds place done) below =
     round_plan program.schema (around st) (party s t) t.work (round_of t.work.opened) (closing place me.block done statement)
 task_plan program st s me t statement (Settling place) below =
