@@ -1,5 +1,6 @@
 -- A catalog whose conditions and bodies are data that contracts compute with, and the look-ups in it.
-use Rattle.std.specs.Prelude.{ℕ, Bool, false, List, [], Option, Some, None, map, find, option_map, option_and_then, unwrap_or, slice_get}
+use Rattle.std.specs.Prelude.{ℕ, Bool, false, List, [], Option, Some, None, map, find, option_map, option_and_then, unwrap_or, slice_get, ◌∷◌}
+use Rattle.std.specs.List.{flat_map}
 use Rattle.aq_base.specs.Names.{Text, same_text}
 use Rattle.aq_base.specs.Terms.{Term}
 use Rattle.aq_base.specs.Statements.{term_in}
@@ -9,7 +10,7 @@ use Rattle.aq_base.specs.Events.{Event}
 use Rattle.aq_base.specs.ConstraintModes.{Modes, is_deferred_mode}
 use Rattle.aq_base.specs.declared.catalog.Column.{Column}
 use Rattle.aq_base.specs.declared.catalog.Does.{Does}
-use Rattle.aq_base.specs.declared.catalog.Does.TheVariants.{Body}
+use Rattle.aq_base.specs.declared.catalog.Does.TheVariants.{Body, Native}
 use Rattle.aq_base.specs.declared.catalog.Trigger.{Trigger}
 use Rattle.aq_setup.specs.Catalogs.{Catalog, columns_at}
 
@@ -47,6 +48,18 @@ code_at schema trigger = unwrap_or (slice_get schema.codes trigger) []
 
 abbrev pub rule_named : Schema → Text → Option Rule
 rule_named schema name = option_map (λ entry. entry.1) (find (λ entry. same_text entry.0 name) schema.rules)
+
+-- the rules that the tables' native checks name, each with its table
+abbrev pub listed_rule : ℕ → Option Rule → List (ℕ × Rule)
+listed_rule table None = []
+listed_rule table (Some rule) = (table, rule) ∷ []
+
+abbrev pub rules_of_does : Schema → ℕ → Does → List (ℕ × Rule)
+rules_of_does schema table (Native name) = listed_rule table (rule_named schema name)
+rules_of_does schema table _ = []
+
+abbrev pub table_rules : Schema → List (ℕ × Rule)
+table_rules schema = flat_map (λ trigger. rules_of_does schema trigger.table trigger.does) schema.catalog.triggers
 
 -- ---- whether events wait for the commit now
 
