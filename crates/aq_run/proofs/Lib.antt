@@ -6,6 +6,7 @@ pub mod Free_events
 pub mod Free_starts
 pub mod Free_steps
 pub mod Worked
-mod Told_apart
+pub mod Told_apart
 mod Schedules
 mod Printed
+mod Measured

@@ -378,3 +378,55 @@ cascade_out_of_range-tables = refl
 cascade_out_of_range-trace : cascade_out_of_range-end.world.trace ≡ (traces.Begin (codes "a") isolations.ReadCommitted ∷ traces.Open (codes "a") 1 ∷ traces.Change (codes "a") (codes "p") 1 None (Some ((values.Int (pos 1)) ∷ [])) [] ∷ traces.Close (codes "a") 1 ∷ traces.Drain (codes "a") ∷ traces.Commit (codes "a") 1 ∷ traces.Reply (codes "a") 1 ∷ traces.Begin (codes "a") isolations.ReadCommitted ∷ traces.Open (codes "a") 1 ∷ traces.Change (codes "a") (codes "c") 2 None (Some ((values.Int (pos 1)) ∷ [])) (record { no = 1; trigger = codes "RI_ConstraintTrigger_c_0000000001" } ∷ []) ∷ traces.Round (codes "a") ∷ traces.Fire (codes "a") 1 ∷ traces.Done (codes "a") 1 endings.Passed ∷ traces.Close (codes "a") 1 ∷ traces.Drain (codes "a") ∷ traces.Commit (codes "a") 2 ∷ traces.Reply (codes "a") 2 ∷ traces.Begin (codes "a") isolations.ReadCommitted ∷ traces.Open (codes "a") 1 ∷ traces.Change (codes "a") (codes "p") 1 (Some ((values.Int (pos 1)) ∷ [])) (Some ((values.Int (pos 2147483648)) ∷ [])) (record { no = 1; trigger = codes "RI_ConstraintTrigger_a_0000000001" } ∷ []) ∷ traces.Round (codes "a") ∷ traces.Fire (codes "a") 1 ∷ traces.Fail (codes "a") (record { 0 = codes "22003" }) ∷ traces.Abort (codes "a") ∷ traces.Reply (codes "a") 3 ∷ traces.Begin (codes "a") isolations.ReadCommitted ∷ traces.Open (codes "a") 1 ∷ traces.Change (codes "a") (codes "p") 1 (Some ((values.Int (pos 1)) ∷ [])) (Some ((values.Int (pos 2147483647)) ∷ [])) (record { no = 1; trigger = codes "RI_ConstraintTrigger_a_0000000001" } ∷ []) ∷ traces.Round (codes "a") ∷ traces.Fire (codes "a") 1 ∷ traces.Change (codes "a") (codes "c") 2 (Some ((values.Int (pos 1)) ∷ [])) (Some ((values.Int (pos 2147483647)) ∷ [])) (record { no = 2; trigger = codes "RI_ConstraintTrigger_c_0000000001" } ∷ []) ∷ traces.Done (codes "a") 1 (endings.Acted 1) ∷ traces.Round (codes "a") ∷ traces.Fire (codes "a") 2 ∷ traces.Done (codes "a") 2 endings.Passed ∷ traces.Close (codes "a") 1 ∷ traces.Drain (codes "a") ∷ traces.Commit (codes "a") 3 ∷ traces.Reply (codes "a") 4 ∷ traces.End (codes "a") ∷ [])
 unfolding cascade_out_of_range-end run_from step effect effects_of plan_of error_effects row_step insert_step queued_by queued_by_statement child_check no_action_check restrict_check action_targets new_rows targets
 cascade_out_of_range-trace = refl
+
+-- The end of an action drops a statement event that the round has taken already, and goes on to check the old key.
+-- \setup
+-- CREATE TABLE p (a integer PRIMARY KEY, b integer DEFAULT 1 REFERENCES p ON UPDATE SET DEFAULT);
+-- CREATE FUNCTION g() RETURNS trigger LANGUAGE plpgsql AS $$ BEGIN RETURN NULL; END $$;
+-- CREATE TRIGGER s AFTER UPDATE ON p FOR EACH STATEMENT EXECUTE FUNCTION g();
+-- \session a
+-- INSERT INTO p VALUES (1, 1); UPDATE p SET a = 2;
+unfoldable pub default_that_replaces : Program
+default_that_replaces =
+    record {
+      schema = record {
+        catalog = record {
+          tables = (record { name = codes "p"; cols = (record { name = codes "a"; kind = kinds.Integer; default = values.Null } ∷ record { name = codes "b"; kind = kinds.Integer; default = (values.Int (pos 1)) } ∷ []); not_null = (0 ∷ []) } ∷ []);
+          keys = (record { name = codes "p_pkey"; table = 0; cols = (0 ∷ []) } ∷ []);
+          primaries = (0 ∷ []);
+          fks = (record { name = codes "p_b_fkey"; child = 0; child_cols = (1 ∷ []); parent = 0; parent_cols = (0 ∷ []); full = false; on_delete = actions.NoAction; on_update = actions.SetDefault; con = 1; set_cols = (1 ∷ []) } ∷ []);
+          constraints = (record { name = codes "p_pkey"; table = 0; decl = record { deferrable = false; deferred = false } } ∷ record { name = codes "p_b_fkey"; table = 0; decl = record { deferrable = false; deferred = false } } ∷ []);
+          functions = [];
+          triggers = (record { name = codes "RI_ConstraintTrigger_a_0000000001"; table = 0; ops = (ops.Delete ∷ []); cols = ([]); level = each.Row; condition = None; con = (Some 1); does = Parent 0; old_table = None; new_table = None } ∷ record { name = codes "RI_ConstraintTrigger_a_0000000001"; table = 0; ops = (ops.Update ∷ []); cols = ([]); level = each.Row; condition = None; con = None; does = Parent 0; old_table = None; new_table = None } ∷ record { name = codes "RI_ConstraintTrigger_c_0000000001"; table = 0; ops = (ops.Insert ∷ ops.Update ∷ []); cols = ([]); level = each.Row; condition = None; con = (Some 1); does = Check 0; old_table = None; new_table = None } ∷ record { name = codes "s"; table = 0; ops = (ops.Update ∷ []); cols = ([]); level = each.Statement; condition = None; con = None; does = Body (record { statements = []; handlers = [] }); old_table = None; new_table = None } ∷ []);
+        };
+        conditions = (None ∷ None ∷ None ∷ None ∷ []);
+        codes = ([] ∷ [] ∷ [] ∷ (block_code (joined ((Returns ∷ []) ∷ [])) []) ∷ []);
+        rules = [];
+      };
+      names = (codes "a" ∷ []);
+      statements = (((Ready (Changes_rows (Inserts (record { table = 0; columns = None; source = Values (((Value_of (Constant (values.Int (pos 1)))) ∷ (Value_of (Constant (values.Int (pos 1)))) ∷ []) ∷ []) })))) ∷ (Ready (Changes_rows (Updates (record { table = 0; assignments = (record { column = 0; value = (Value_of (Constant (values.Int (pos 2)))) } ∷ []); condition = None })))) ∷ []) ∷ []);
+    }
+
+default_that_replaces-end : State
+unfolding default_that_replaces run_from step effect effects_of plan_of error_effects row_step insert_step queued_by queued_by_statement child_check no_action_check restrict_check action_targets new_rows targets
+default_that_replaces-end = run default_that_replaces (replicate 16 0)
+
+default_that_replaces-ended : have_all_ended default_that_replaces-end ≡ true
+unfolding default_that_replaces-end run_from step effect effects_of plan_of error_effects row_step insert_step queued_by queued_by_statement child_check no_action_check restrict_check action_targets new_rows targets
+default_that_replaces-ended = refl
+
+default_that_replaces-not_before : have_all_ended (run default_that_replaces (replicate 15 0)) ≡ false
+unfolding default_that_replaces run_from step effect effects_of plan_of error_effects row_step insert_step queued_by queued_by_statement child_check no_action_check restrict_check action_targets new_rows targets
+default_that_replaces-not_before = refl
+
+default_that_replaces-replies : default_that_replaces-end.world.replies ≡ (record { session = 0; statement = 1; line = replies.Tag (codes "INSERT 0 1") } ∷ record { session = 0; statement = 2; line = replies.Error (record { 0 = codes "23503" }) (codes "update or delete on table \"p\" violates foreign key constraint \"p_b_fkey\" on table \"p\"") } ∷ record { session = 0; statement = 2; line = replies.Detail (codes "Key (a)=(1) is still referenced from table \"p\".") } ∷ [])
+unfolding default_that_replaces-end run_from step effect effects_of plan_of error_effects row_step insert_step queued_by queued_by_statement child_check no_action_check restrict_check action_targets new_rows targets digits
+default_that_replaces-replies = refl
+
+default_that_replaces-tables : final_tables default_that_replaces default_that_replaces-end ≡ ((((values.Int (pos 1)) ∷ (values.Int (pos 1)) ∷ []) ∷ []) ∷ [])
+unfolding default_that_replaces default_that_replaces-end run_from step effect effects_of plan_of error_effects row_step insert_step queued_by queued_by_statement child_check no_action_check restrict_check action_targets new_rows targets
+default_that_replaces-tables = refl
+
+default_that_replaces-trace : default_that_replaces-end.world.trace ≡ (traces.Begin (codes "a") isolations.ReadCommitted ∷ traces.Open (codes "a") 1 ∷ traces.Change (codes "a") (codes "p") 1 None (Some ((values.Int (pos 1)) ∷ (values.Int (pos 1)) ∷ [])) (record { no = 1; trigger = codes "RI_ConstraintTrigger_c_0000000001" } ∷ []) ∷ traces.Round (codes "a") ∷ traces.Fire (codes "a") 1 ∷ traces.Done (codes "a") 1 endings.Passed ∷ traces.Close (codes "a") 1 ∷ traces.Drain (codes "a") ∷ traces.Commit (codes "a") 1 ∷ traces.Reply (codes "a") 1 ∷ traces.Begin (codes "a") isolations.ReadCommitted ∷ traces.Open (codes "a") 1 ∷ traces.Change (codes "a") (codes "p") 1 (Some ((values.Int (pos 1)) ∷ (values.Int (pos 1)) ∷ [])) (Some ((values.Int (pos 2)) ∷ (values.Int (pos 1)) ∷ [])) (record { no = 1; trigger = codes "RI_ConstraintTrigger_a_0000000001" } ∷ []) ∷ traces.Queue (codes "a") 2 (codes "s") ∷ traces.Round (codes "a") ∷ traces.Fire (codes "a") 1 ∷ traces.Change (codes "a") (codes "p") 1 (Some ((values.Int (pos 2)) ∷ (values.Int (pos 1)) ∷ [])) (Some ((values.Int (pos 2)) ∷ (values.Int (pos 1)) ∷ [])) (record { no = 3; trigger = codes "RI_ConstraintTrigger_c_0000000001" } ∷ []) ∷ traces.Dropped (codes "a") 2 ∷ traces.Queue (codes "a") 4 (codes "s") ∷ traces.Pair (codes "a") 1 1 ∷ traces.Fail (codes "a") (record { 0 = codes "23503" }) ∷ traces.Abort (codes "a") ∷ traces.Reply (codes "a") 2 ∷ traces.End (codes "a") ∷ [])
+unfolding default_that_replaces-end run_from step effect effects_of plan_of error_effects row_step insert_step queued_by queued_by_statement child_check no_action_check restrict_check action_targets new_rows targets
+default_that_replaces-trace = refl

@@ -1,5 +1,5 @@
 -- Why every run ends: four numbers, compared from the first one on, that fall with every step of an enabled session.
-use Rattle.std.specs.Prelude.{◌≡◌, ℕ, ◌+◌, ◌-◌, ◌<◌, Bool, true, not, List, [], ◌∷◌, length, map, filter, drop, Option, Some, None, if◌then◌else◌, slice_get, unwrap_or}
+use Rattle.std.specs.Prelude.{◌≡◌, ℕ, ◌+◌, ◌-◌, ◌<◌, Bool, true, false, not, List, [], ◌∷◌, length, map, filter, drop, Option, Some, None, if◌then◌else◌, slice_get, unwrap_or}
 use Rattle.aq_base.specs.Limits.{step_limit}
 use Rattle.aq_base.specs.Works.{Opened}
 use Rattle.aq_base.specs.Rounds.{round_of}
@@ -20,7 +20,8 @@ abbrev pub statements_left : Program → ℕ → Session → ℕ
 statements_left program s me = length (unwrap_or (slice_get program.statements s) []) - me.next
 
 abbrev pub one_if : Bool → ℕ
-one_if yes_it_is = if yes_it_is then 1 else 0
+one_if true = 1
+one_if false = 0
 
 abbrev pub ahead_of : Program → ℕ → Session → ℕ
 ahead_of program s me = statements_left program s me + one_if (not me.ended)
