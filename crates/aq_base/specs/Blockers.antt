@@ -1,6 +1,6 @@
 -- Who stands in the way of a session: the sessions whose transactions hold a row in a mode that conflicts, or have to do with a key
 -- (PostgreSQL source, heapam.c, Do_MultiXactIdWait; nbtinsert.c, _bt_check_unique). Sessions are numbered by their places in the lists.
-use Rattle.std.specs.Prelude.{ℕ, Bool, false, not, ◌&&◌, ◌||◌, ◌==◌, List, map, filter, Option, Some, None}
+use Rattle.std.specs.Prelude.{ℕ, Bool, false, not, ◌&&◌, ◌||◌, ◌==◌, List, map, filter, Option, Some, None, true, ◌+◌, ◌∷◌, []}
 use Rattle.std.specs.List.{list_any, enumerate_from}
 use Rattle.aq_base.specs.Values.{Row, keys_match, values_at}
 use Rattle.aq_base.specs.Maps.{at}
@@ -14,9 +14,18 @@ pub data Ask : Type 0 where
   For_row : (row : ℕ) → (mode : LockMode) → Ask
   For_key : (key : ℕ) → (values : Row) → (apart : Option ℕ) → Ask
 
--- the places of the entries that pass a test, but one
+-- the numbers, from a first one on, of the entries that pass a test, but one
+abbrev pub with_number : Bool → ℕ → List ℕ → List ℕ
+with_number true number numbers = number ∷ numbers
+with_number false number numbers = numbers
+
+abbrev pub others_from : {A : Type 0} → ℕ → ℕ → (A → Bool) → List A → List ℕ
+others_from number own test [] = []
+others_from number own test (entry ∷ entries) =
+    with_number (not (number == own) && test entry) number (others_from (number + 1) own test entries)
+
 abbrev pub others : {A : Type 0} → ℕ → (A → Bool) → List A → List ℕ
-others own test entries = map (λ entry. entry.0) (filter (λ entry. not (entry.0 == own) && test entry.1) (enumerate_from 0 entries))
+others own test entries = others_from 0 own test entries
 
 -- what each session holds, nothing where it has no transaction
 abbrev pub row_blockers : ℕ → List Holdings → ℕ → LockMode → List ℕ
