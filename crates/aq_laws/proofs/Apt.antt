@@ -1,6 +1,6 @@
 -- An event that a statement has queued is of a trigger for statements: in the work of each transaction and in its saved copies.
 use Rattle.std.proofs.Common.{◌≡◌, ℕ, Bool, true, false, not, ◌||◌, List, [], ◌∷◌, ◌++◌, Option, Some, None, refl, ap, ◌∙◌}
-use Rattle.std.specs.Prelude.{◌+◌, ◌-◌, zero, suc, length, drop, filter, option_map, slice_get, if◌then◌else◌, cond}
+use Rattle.std.specs.Prelude.{◌+◌, ◌-◌, zero, suc, length, drop, filter, option_map, cond}
 use Rattle.std.specs.List.{list_all}
 use Rattle.std.proofs.lemmas.Bool.{and_parts, and_from}
 use Rattle.std.proofs.lemmas.List.Folds.{list_all-append}
@@ -11,11 +11,11 @@ use Rattle.aq_base.specs.Transitions.{closed}
 use Rattle.aq_base.specs.Works.{Work, Opened, Saved, Kind, Mark}
 use Rattle.aq_base.specs.Works.Kind.{Level, Constraints, Drain}
 use Rattle.aq_base.specs.Works.Mark.{Named, Block as Of_block}
-use Rattle.aq_base.specs.Rounds.{without_top, without_top_level, without_first, with_round, taken, still_deferred, taking, waiting, ended, queued_on_top}
+use Rattle.aq_base.specs.Rounds.{without_top, without_top_level, without_first, taken, still_deferred, taking, waiting, ended, queued_on_top}
 use Rattle.aq_base.specs.declared.catalog.Op.{Op}
 use Rattle.aq_base.specs.declared.catalog.Trigger.{Trigger}
 use Rattle.aq_outcomes.specs.Schemas.{Schema, trigger_at, is_deferred}
-use Rattle.aq_outcomes.specs.Queued.{is_for_rows, events_of, without_replaced, is_replaced}
+use Rattle.aq_outcomes.specs.Queued.{is_for_rows, events_of, is_replaced}
 use Rattle.aq_outcomes.specs.Rows.{Change}
 use Rattle.aq_run.specs.Programs.{Program}
 use Rattle.aq_run.specs.States.{Transaction, Session, World}
@@ -76,7 +76,7 @@ module _ (schema : Schema) where
   opened-drop [] apt = tt
   opened-drop (top ∷ below) apt = apt.1.1
 
-  saved-drop : (n : ℕ) (saved : List Saved) → Saved_apt saved → Saved_apt (drop n saved)
+  pub saved-drop : (n : ℕ) (saved : List Saved) → Saved_apt saved → Saved_apt (drop n saved)
   saved-drop zero saved apt = apt
   saved-drop (suc n) [] apt = tt
   saved-drop (suc n) (copy ∷ others) apt = saved-drop n others apt.1
@@ -146,10 +146,10 @@ module _ (schema : Schema) where
 
 -- ---- effects
 
-abbrev the_event : World → Change → Transaction → Event
+abbrev pub the_event : World → Change → Transaction → Event
 the_event world change t = change_event (row_of world change) (world.writes + 1) (set_of change.table change.op (with_set change.table change.op t.events t.work)) change
 
-abbrev the_statement_event : ℕ → Op → Transaction → Event
+abbrev pub the_statement_event : ℕ → Op → Transaction → Event
 the_statement_event table op t = statement_event table op (set_of table op (with_set table op t.events t.work))
 
 module _ (program : Program) where

@@ -1,26 +1,24 @@
 -- The rows that the works of a transaction have written, from those that the last of them has.
-use Rattle.std.proofs.Common.{◌≡◌, ◌≢◌, ℕ, ◌≤◌, Bool, true, false, arith, List, [], ◌∷◌, Option, Some, None, Contains, refl, sym, ap, ◌∙◌, subst, ⊎_elim, map}
-use Rattle.std.specs.Prelude.{is_some, nat_le}
+use Rattle.std.proofs.Common.{◌≡◌, ℕ, ◌≤◌, true, false, arith, List, [], ◌∷◌, Option, Some, None, Contains, refl, sym, ap, ◌∙◌, subst, ⊎_elim, map}
+use Rattle.std.specs.Prelude.{is_some}
 use Rattle.std.proofs.lemmas.Bool.{true≢false}
 use Rattle.std.proofs.lemmas.Bool.Decides.{nat_tests}
-use Rattle.std.proofs.lemmas.Option.{same_Some, none-some}
 use Rattle.aq_base.proofs.Lists.{Contains-none, Contains-cons_cases}
 use Rattle.aq_base.specs.Values.{Row}
 use Rattle.aq_base.specs.Maps.{at}
-use Rattle.aq_base.specs.Databases.{Database, Stored, last_database}
+use Rattle.aq_base.specs.Databases.{Database, last_database}
 use Rattle.aq_base.specs.Writes.{Write, Writes, has_written}
-use Rattle.aq_base.specs.LockModes.{Holdings, strength}
+use Rattle.aq_base.specs.LockModes.{strength}
 use Rattle.aq_base.specs.Works.{Work, Saved}
 use Rattle.aq_base.specs.declared.data.LockMode.{LockMode}
-use Rattle.aq_run.specs.Programs.{Program}
-use Rattle.aq_run.specs.States.{Transaction, Session, State, session_at}
-use Rattle.aq_run.specs.Runs.{Schedule, run}
+use Rattle.aq_run.specs.States.{Transaction, session_at}
+use Rattle.aq_run.specs.Runs.{run}
 use Rattle.aq_run.proofs.Parts.{Of_transaction}
 use Rattle.aq_run.proofs.Copies_fit.{is_at_most, Holds}
 use Rattle.aq_run.proofs.Free_steps.{writes_in}
 use Rattle.aq_run.proofs.Written.{writer_mode, Written, Rewritten, Within, Within-self, Within-trans, Copies_written, Rows_written}
 use Rattle.aq_run.proofs.Written_apart.{All_written, written_rows_are_held}
-use Rattle.aq_laws.specs.Writes.{works_of, IsHeld, least_mode, WritesAreApart, WrittenRowsAreHeld}
+use Rattle.aq_laws.specs.Writes.{least_mode, WritesAreApart, WrittenRowsAreHeld}
 
 -- a work of the transaction is written, and its rows are written again by the present work
 pub record Work_written (rows numbers : ℕ) (db : Database) (present : Writes) (work : Work) : Type 0 where

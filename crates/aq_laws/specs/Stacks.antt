@@ -1,7 +1,7 @@
 -- What is in progress in a session fits what its transaction has opened and saved.
-use Rattle.std.specs.Prelude.{◌≡◌, ℕ, zero, suc, Bool, true, false, List, [], ◌∷◌, length, drop, Option, Some, None, is_some, slice_get}
+use Rattle.std.specs.Prelude.{◌≡◌, ◌<◌, ℕ, zero, suc, Bool, true, false, List, [], ◌∷◌, length, drop, Option, Some, None, is_some, slice_get}
 use Rattle.aq_base.specs.Events.{Event, is_of_statement}
-use Rattle.aq_base.specs.Works.{Opened, Kind, Mark, Saved}
+use Rattle.aq_base.specs.Works.{Opened, Mark, Saved}
 use Rattle.aq_base.specs.Works.Kind.{Level, Constraints, Drain}
 use Rattle.aq_base.specs.Works.Mark.{Named, Block}
 use Rattle.aq_base.specs.Rounds.{round_of}
@@ -11,7 +11,7 @@ use Rattle.aq_base.specs.declared.catalog.Trigger.{Trigger}
 use Rattle.aq_base.specs.declared.trigger.Each.TheVariants as each
 use Rattle.aq_catalog.specs.Catalogs.{Catalog}
 use Rattle.aq_outcomes.specs.Schemas.{Schema}
-use Rattle.aq_run.specs.Programs.{Program, Prepared}
+use Rattle.aq_run.specs.Programs.{Program, Prepared, statement_at}
 use Rattle.aq_run.specs.Programs.Prepared.{Ready}
 use Rattle.aq_run.specs.States.{Place, Task, Block_state, Transaction, Session, session_at}
 use Rattle.aq_run.specs.States.Place.{In_session, In_body}
@@ -110,17 +110,17 @@ Block_fits Idle t tasks = Unit {0}
 Block_fits Open t tasks = is_some t ≡ true
 Block_fits Failed t tasks = tasks ≡ []
 
--- a session that has ended has neither tasks nor a transaction
-abbrev pub End_fits : Bool → Option Transaction → List Task → Type 0
-End_fits false t tasks = Unit {0}
-End_fits true t tasks = (tasks ≡ []) × (t ≡ None)
+-- a session that has ended has neither tasks nor a transaction, and no statement is left
+abbrev pub End_fits : Bool → Option Prepared → Option Transaction → List Task → Type 0
+End_fits false statement t tasks = Unit {0}
+End_fits true statement t tasks = (tasks ≡ []) × ((t ≡ None) × (statement ≡ None))
 
 pub record SessionFits (program : Program) (s : ℕ) (me : Session) : Type 0 where
   pub tasks : Transaction_fits program.schema (current program s me.next) me.block me.transaction me.tasks
-  pub block : Block_fits me.block me.transaction me.tasks
-  pub end : End_fits me.ended me.transaction me.tasks
+  pub block : me.ended ≡ false → Block_fits me.block me.transaction me.tasks
+  pub end : End_fits me.ended (statement_at program s me.next) me.transaction me.tasks
 
 -- at each moment of each run, with what is in progress in each session
 abbrev pub StacksFit : Type 0
 StacksFit =
-    (program : Program) → ActionsAreForRows program.schema.catalog → (schedule : Schedule) (s : ℕ) → SessionFits program s (session_at (run program schedule) s)
+    (program : Program) → ActionsAreForRows program.schema.catalog → (schedule : Schedule) (s : ℕ) → s < length program.names → SessionFits program s (session_at (run program schedule) s)

@@ -1,10 +1,11 @@
 -- Graphs along whose edges a rank falls: they have no cycle, and stay so when edges are added that close none.
-use Rattle.std.proofs.Common.{◌≡◌, ◌≢◌, ℕ, ◌≤◌, ◌<◌, Bool, true, false, arith, List, [], ◌∷◌, Option, Some, None, refl, sym, ap, ◌∙◌, subst, ⊎_elim, ◌⊎◌, inl, inr, eqb-true}
-use Rattle.std.specs.Prelude.{◌+◌, ◌-◌, ◌==◌, ◌||◌, zero, suc, length, filter, find, map, is_some, nat_lt, if◌then◌else◌}
-use Rattle.std.specs.List.{list_any, enumerate_from}
-use Rattle.std.proofs.lemmas.Bool.{true≢false, cases_eq, eq-eqb, or_cases}
+use Rattle.std.proofs.Common.{◌≡◌, ℕ, ◌≤◌, ◌<◌, Bool, true, false, arith, List, [], ◌∷◌, Option, Some, None, refl, sym, ap, ◌∙◌, subst, ⊎_elim, ◌⊎◌, inl, inr, eqb-true, Contains}
+use Rattle.std.specs.Prelude.{◌+◌, ◌-◌, ◌==◌, ◌||◌, zero, suc, length, filter, find, is_some, nat_lt, if◌then◌else◌}
+use Rattle.std.specs.List.{list_any}
+use Rattle.std.proofs.lemmas.Bool.{true≢false, eq-eqb, or_cases}
 use Rattle.std.proofs.lemmas.Bool.Decides.{nat_tests}
 use Rattle.std.proofs.lemmas.Option.{none-some}
+use Rattle.aq_base.proofs.Lists.{Contains-none, Contains-cons_cases}
 use Rattle.aq_base.specs.Cycles.{is_in, reaching, first_among, is_way, way, shortest, cycle_by, cycle_through}
 
 abbrev pub IsIn : List ℕ → ℕ → Type 0
@@ -31,6 +32,10 @@ in-later m n ns is = or_right (m == n) (is_in ns n) is
 
 pub in-none : (n : ℕ) → IsIn [] n → ⊥
 in-none n is = true≢false (sym is)
+
+pub contains-in : (ns : List ℕ) (n : ℕ) → Contains ns n → IsIn ns n
+contains-in [] n c = absurd (Contains-none n c)
+contains-in (m ∷ ns) n c = ⊎_elim (λ (same : m ≡ n). subst (IsIn (m ∷ ns)) same (in-first m ns)) (λ later. in-later m n ns (contains-in ns n later)) (Contains-cons_cases m n ns c)
 
 pub any-in : (p : ℕ → Bool) (ns : List ℕ) (n : ℕ) → IsIn ns n → p n ≡ true → list_any p ns ≡ true
 any-in p [] n is holds = absurd (in-none n is)
@@ -77,7 +82,7 @@ find-none p (m ∷ ns) n none is = find-step p m n ns (p m) refl (λ none' later
 
 -- ---- counts
 
-abbrev count : (ℕ → Bool) → List ℕ → ℕ
+abbrev pub count : (ℕ → Bool) → List ℕ → ℕ
 count p [] = 0
 count p (n ∷ ns) = if p n then count p ns + 1 else count p ns
 
@@ -154,7 +159,7 @@ lift-new false false m n more e f less = absurd (true≢false (sym f))
 -- ---- the nodes that lead to a goal
 
 module _ (next : ℕ → List ℕ) (all : List ℕ) (goal : ℕ) (rank : ℕ → ℕ) (goal_in : IsIn all goal) where
-  abbrev from_fewer : ℕ → ℕ → Bool
+  abbrev pub from_fewer : ℕ → ℕ → Bool
   from_fewer n k = (k == goal) || list_any (is_in (reaching next all goal n)) (next k)
 
   reach-inside : (n k : ℕ) → IsIn (reaching next all goal n) k → IsIn all k
@@ -178,7 +183,7 @@ module _ (next : ℕ → List ℕ) (all : List ℕ) (goal : ℕ) (rank : ℕ →
   reach-by (suc more) n k is = let e : suc (more + n) ≡ suc more + n = omega arith in subst (λ m. IsIn (reaching next all goal m) k) e (reach-more (more + n) k (reach-by more n k is))
 
   -- by as many waits as its rank
-  abbrev leads : ℕ → Bool
+  abbrev pub leads : ℕ → Bool
   leads i = is_in (reaching next all goal (rank i)) i
 
   leads-on : (i k : ℕ) → IsIn all i → IsIn (next i) k → rank k < rank i → leads k ≡ true → leads i ≡ true
@@ -197,7 +202,7 @@ module _ (next : ℕ → List ℕ) (all : List ℕ) (goal : ℕ) (rank : ℕ →
 
   -- ---- new edges out of the goal, to nodes that don't lead to it
 
-  abbrev lifted : ℕ → ℕ
+  abbrev pub lifted : ℕ → ℕ
   lifted i = if leads i then rank i + length all else rank i
 
   pub lifted-old : (i k : ℕ) → IsIn all i → IsIn (next i) k → rank k < rank i → lifted k < lifted i

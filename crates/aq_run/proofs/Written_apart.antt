@@ -1,38 +1,37 @@
 -- No two sessions have written one row, and each holds in a writer's mode what it has written and the last database has: in every state of every run.
 use Rattle.std.proofs.Common.{◌≡◌, ◌≢◌, ℕ, ◌≤◌, Bool, true, false, arith, List, [], ◌∷◌, ◌++◌, Option, Some, None, refl, sym, ap, ◌∙◌, subst, ⊎_elim, ◌⊎◌, inl, inr, append-nil, length-append}
-use Rattle.std.specs.Prelude.{slice_index_or, slice_set, map, nat_le, length, ◌-◌, ◌+◌, zero, suc, unwrap_or, is_some}
+use Rattle.std.specs.Prelude.{slice_index_or, slice_set, map, length, ◌-◌, ◌+◌, zero, suc, unwrap_or}
 use Rattle.std.proofs.lemmas.Bool.{true≢false}
 use Rattle.std.proofs.lemmas.Bool.Decides.{nat_tests}
-use Rattle.std.proofs.lemmas.Option.{same_Some, none-some}
+use Rattle.std.proofs.lemmas.Option.{none-some}
 use Rattle.aq_base.specs.Values.{Row}
 use Rattle.aq_base.specs.Names.{Text}
 use Rattle.aq_base.specs.Maps.{at, with_at}
 use Rattle.aq_base.proofs.Maps.{KeysRise}
 use Rattle.aq_base.specs.Databases.{Database, Stored, History, last_number, last_database}
 use Rattle.aq_base.specs.Writes.{Write, Writes, overlay, latest_view}
-use Rattle.aq_base.specs.LockModes.{Holdings, strength, conflict, conflicts_with}
+use Rattle.aq_base.specs.LockModes.{Holdings, conflict, conflicts_with}
 use Rattle.aq_base.specs.Works.{Saved}
 use Rattle.aq_base.specs.declared.data.LockMode.{LockMode}
-use Rattle.aq_base.specs.declared.data.LockMode.TheVariants.{Update, NoKeyUpdate}
+use Rattle.aq_base.specs.declared.data.LockMode.TheVariants.{NoKeyUpdate}
 use Rattle.aq_outcomes.specs.Rows.{Change, mode_for, changed_keys}
 use Rattle.aq_run.specs.Programs.{Program}
 use Rattle.aq_run.specs.States.{Task, Transaction, Session, World, State, at_start, nobody, opening, session_at, around, held_by}
-use Rattle.aq_run.specs.Effects.{Effect, Scene, effect, effects, on_session, row_of, rows_drawn, committed}
-use Rattle.aq_run.specs.Effects.Effect.{Resumes, Starts_waiting, Counts_step, Locks, Changes, Turns, Commits}
-use Rattle.aq_run.specs.Steps.{step, effects_of, scene_of, counting, count_effects, is_counted_with}
+use Rattle.aq_run.specs.Effects.{Effect, Scene, effect, effects, committed}
+use Rattle.aq_run.specs.Effects.Effect.{Resumes, Starts_waiting, Locks, Changes, Turns, Commits}
+use Rattle.aq_run.specs.Steps.{step, effects_of, scene_of, count_effects, is_counted_with}
 use Rattle.aq_run.specs.Runs.{Schedule, run_from, run}
 use Rattle.aq_catalog.specs.Catalogs.{Catalog}
 use Rattle.aq_outcomes.specs.Parties.{Around}
-use Rattle.aq_run.proofs.Effected.{effects-append}
-use Rattle.aq_run.proofs.Views.{newest, stored_by, KeysRise-overlay, at-overlay, at-unwritten, at-written}
-use Rattle.aq_run.proofs.Parts.{Fact, Of_transaction, Goes_with_copies, Goes_over, locked_in, on_session-over}
-use Rattle.aq_run.proofs.Copies_fit.{is_at_most, Holds, Fits, at_most-self, each-set}
+use Rattle.aq_run.proofs.Views.{KeysRise-overlay, at-unwritten}
+use Rattle.aq_run.proofs.Parts.{Fact, Of_transaction, Goes_with_copies, locked_in, on_session-over}
+use Rattle.aq_run.proofs.Copies_fit.{is_at_most, Holds}
 use Rattle.aq_run.proofs.Written.{writer_mode, Rows_written-locked, Written, Rewritten, Within, Copies_written, Rows_written, Rows_written-copies, Rows_written-grow, Rows_written-put, Holds-locked, put-cases}
-use Rattle.aq_run.proofs.Free_rows.{Fits_parts, Change_fits, Changes_row, New_fits}
+use Rattle.aq_run.proofs.Free_rows.{Fits_parts, Changes_row, New_fits}
 use Rattle.aq_run.proofs.Free_plans.{Is_allowed, Each}
 use Rattle.aq_run.proofs.Free_steps.{writes_in, Kind_of_step, kind_of_step}
 use Rattle.aq_run.proofs.Free_steps.Kind_of_step.{Changing_a_row, Without_a_change, Waiting}
-use Rattle.aq_run.proofs.Holdings_apart.{set-cases, row-free}
+use Rattle.aq_run.proofs.Holdings_apart.{row-free}
 
 -- ---- the last database
 
@@ -116,7 +115,7 @@ abbrev pub Rests_on : Option Transaction → World → Effect → Type 0
 Rests_on theirs world (Changes change lock triggers) = Change_against world.rows (writes_in theirs) change.row change.new lock
 Rests_on theirs world _ = Unit {0}
 
-their_rows : (rows numbers : ℕ) (db : Database) (theirs : Option Transaction) → Of_transaction (Rows_written rows numbers db) theirs → (q : ℕ) (other : Write) → at q (writes_in theirs) ≡ Some other → q ≤ rows
+pub their_rows : (rows numbers : ℕ) (db : Database) (theirs : Option Transaction) → Of_transaction (Rows_written rows numbers db) theirs → (q : ℕ) (other : Write) → at q (writes_in theirs) ≡ Some other → q ≤ rows
 their_rows rows numbers db None is q other there = absurd (none-some other there)
 their_rows rows numbers db (Some t) is q other there = is.0.drawn q other there
 
@@ -133,13 +132,13 @@ database_growth rows db (Some row) stands = stands
 -- ---- the commit
 
 -- rows of the next database are written, or were in the last one
-from_view : (commit : ℕ) (writes : Writes) (db : Database) (row : ℕ) (stored : Stored) (found : Option Write) → KeysRise writes → at row writes ≡ found → at row (overlay commit writes db) ≡ Some stored →
+pub from_view : (commit : ℕ) (writes : Writes) (db : Database) (row : ℕ) (stored : Stored) (found : Option Write) → KeysRise writes → at row writes ≡ found → at row (overlay commit writes db) ≡ Some stored →
     ((one : Write) × (at row writes ≡ Some one)) ⊎ ((at row writes ≡ None) × (at row db ≡ Some stored))
 from_view commit writes db row stored None rise is there = inr (is, sym (at-unwritten commit writes db row rise is) ∙ there)
 from_view commit writes db row stored (Some one) rise is there = inl (one, is)
 
 -- rows that no commit has touched
-abbrev Untouched : Writes → Database → Database → Type 0
+abbrev pub Untouched : Writes → Database → Database → Type 0
 Untouched writes db next = (row : ℕ) (one : Write) → at row writes ≡ Some one → at row next ≡ at row db
 
 Written-untouched : (rows numbers : ℕ) (db next : Database) (writes : Writes) (holdings : Holdings) → Untouched writes db next → Written rows numbers db writes holdings → Written rows numbers next writes holdings
@@ -233,13 +232,37 @@ effect-stands program s theirs e scene rests stands =
       others = stands.others;
     }
 
-abbrev Rest_on : Option Transaction → List Effect → Scene → Program → ℕ → Type 0
+apart-none : (mine theirs : Writes) → Apart_writes mine theirs → (row : ℕ) (other : Write) → at row theirs ≡ Some other → (found : Option Write) → at row mine ≡ found → at row mine ≡ None
+apart-none mine theirs apart row other there None found = found
+apart-none mine theirs apart row other there (Some one) found = absurd (apart row one other found there)
+
+commit-untouched : (theirs : Option Transaction) (world : World) (t : Option Transaction) → Of_transaction (Joint world.rows world.writes (last_database world.history) (writes_in theirs)) t →
+    Untouched (writes_in theirs) (last_database world.history) (last_database (world.history ++ committed world t))
+commit-untouched theirs world None mine row one is = ap (λ history. at row (last_database history)) (append-nil world.history)
+commit-untouched theirs world (Some t) mine row one is =
+    ap (at row) (last-append world.history (latest_view world.history t.work.writes)) ∙
+    at-unwritten (last_number world.history + 1) t.work.writes (last_database world.history) row mine.0.0.rise (apart-none t.work.writes (writes_in theirs) mine.1 row one is (at row t.work.writes) refl)
+
+effect-untouched : (program : Program) (s : ℕ) (theirs : Option Transaction) (e : Effect) (scene : Scene) → Scene_stands theirs scene →
+    Untouched (writes_in theirs) (last_database scene.world.history) (last_database (effect program s e scene).world.history)
+unfolding effect
+effect-untouched program s theirs Commits scene stands = commit-untouched theirs scene.world scene.me.transaction stands.mine
+effect-untouched program s theirs e scene stands = λ row one is. refl
+
+abbrev pub Rest_on : Option Transaction → List Effect → Scene → Program → ℕ → Type 0
 Rest_on theirs [] scene program s = Unit {0}
 Rest_on theirs (e ∷ es) scene program s = Rests_on theirs scene.world e × Rest_on theirs es (effect program s e scene) program s
 
 effects-stand : (program : Program) (s : ℕ) (theirs : Option Transaction) (es : List Effect) (scene : Scene) → Rest_on theirs es scene program s → Scene_stands theirs scene → Scene_stands theirs (effects program s es scene)
 effects-stand program s theirs [] scene rest stands = stands
 effects-stand program s theirs (e ∷ es) scene rest stands = effects-stand program s theirs es (effect program s e scene) rest.1 (effect-stands program s theirs e scene rest.0 stands)
+
+-- no effect changes a row of the last database that another session has written
+effects-untouched : (program : Program) (s : ℕ) (theirs : Option Transaction) (es : List Effect) (scene : Scene) → Rest_on theirs es scene program s → Scene_stands theirs scene →
+    Untouched (writes_in theirs) (last_database scene.world.history) (last_database (effects program s es scene).world.history)
+effects-untouched program s theirs [] scene rest stands row one is = refl
+effects-untouched program s theirs (e ∷ es) scene rest stands row one is =
+    effects-untouched program s theirs es (effect program s e scene) rest.1 (effect-stands program s theirs e scene rest.0 stands) row one is ∙ effect-untouched program s theirs e scene stands row one is
 
 -- ---- what a step does, against another session
 
@@ -296,7 +319,7 @@ module _ (program : Program) (st : State) (s : ℕ) where
         (strong new mode (writer-mode program.schema.catalog (around st) s mine change row old new mode fits.fits))))
         (from_view (last_number st.world.history + 1) mine last row fits.stored (at row mine) rise refl fits.stands)
 
-    against-fits : (change : Change) (row : Option ℕ) (old new : Option Row) (lock : Option LockMode) → Fits_parts program.schema.catalog (around st) s mine change row old new lock → Change_against rows their_writes row new lock
+    pub against-fits : (change : Change) (row : Option ℕ) (old new : Option Row) (lock : Option LockMode) → Fits_parts program.schema.catalog (around st) s mine change row old new lock → Change_against rows their_writes row new lock
     against-fits change None None (Some new) None fits = tt
     against-fits change (Some row) (Some old) new (Some mode) fits =
         (known row fits.stored fits.stands, (writer-mode program.schema.catalog (around st) s mine change row old new mode fits.fits, none_of_theirs change row old new mode fits (at row their_writes) refl))
@@ -309,7 +332,7 @@ module _ (program : Program) (st : State) (s : ℕ) where
     against-fits change row old new lock fits = absurd fits
 
   -- with nobody else
-  alone-fits : (mine : Writes) (rise : KeysRise mine) (low : (q : ℕ) (one : Write) → at q mine ≡ Some one → q ≤ rows) (db : Database_stands rows last) (change : Change) (row : Option ℕ) (old new : Option Row) (lock : Option LockMode) →
+  pub alone-fits : (mine : Writes) (rise : KeysRise mine) (low : (q : ℕ) (one : Write) → at q mine ≡ Some one → q ≤ rows) (db : Database_stands rows last) (change : Change) (row : Option ℕ) (old new : Option Row) (lock : Option LockMode) →
       Fits_parts program.schema.catalog (around st) s mine change row old new lock → Change_against rows [] row new lock
   alone-fits mine rise low db change None None (Some new) None fits = tt
   alone-fits mine rise low db change (Some row) (Some old) new (Some mode) fits = (
@@ -375,7 +398,7 @@ Apart_writes-none : (theirs : Writes) → Apart_writes [] theirs
 Apart_writes-none theirs row one other is there = none-some one is
 
 module _ (rows numbers : ℕ) (db : Database) where
-  joint-from : (theirs : Writes) (t : Option Transaction) → Of_transaction (Rows_written rows numbers db) t → Apart_writes (writes_in t) theirs → Of_transaction (Joint rows numbers db theirs) t
+  pub joint-from : (theirs : Writes) (t : Option Transaction) → Of_transaction (Rows_written rows numbers db) t → Apart_writes (writes_in t) theirs → Of_transaction (Joint rows numbers db theirs) t
   joint-from theirs None own apart = tt
   joint-from theirs (Some t) own apart = (own, apart)
 
@@ -387,12 +410,12 @@ module _ (rows numbers : ℕ) (db : Database) where
   joint-apart theirs None joint = Apart_writes-none theirs
   joint-apart theirs (Some t) joint = joint.1
 
-  own-rise : (t : Option Transaction) → Of_transaction (Rows_written rows numbers db) t → KeysRise (writes_in t)
+  pub own-rise : (t : Option Transaction) → Of_transaction (Rows_written rows numbers db) t → KeysRise (writes_in t)
   own-rise None own = tt
   own-rise (Some t) own = own.0.rise
 
 module _ (program : Program) (st : State) (s : ℕ) (all : All_written st) where
-  abbrev after_scene : Scene
+  abbrev pub after_scene : Scene
   after_scene = effects program s (effects_of program st s) (scene_of st s)
 
   abbrev mine_before : Option Transaction
@@ -409,6 +432,13 @@ module _ (program : Program) (st : State) (s : ℕ) (all : All_written st) where
   stepped_beside theirs rest others apart =
       effects-stand program s theirs (effects_of program st s) (scene_of st s) rest
       (record { db = all.db; mine = joint-from st.world.rows st.world.writes (last_database st.world.history) (writes_in theirs) mine_before (all.own s) apart; others = others })
+
+  pub untouched_by_step : (j : ℕ) → j ≢ s → Untouched (writes_in (session_at st j).transaction) (last_database st.world.history) (last_database after_scene.world.history)
+  untouched_by_step j other =
+      let apart : Apart_writes (writes_in mine_before) (writes_in (session_at st j).transaction) = all.apart s j (λ same. other (sym same)) in
+      effects-untouched program s (session_at st j).transaction (effects_of program st s) (scene_of st s)
+      (step-rests program st s (session_at st j).transaction (against-fits program st s j other (writes_in mine_before) rise_before low_before all.db (all.own j) apart) (kind_of_step program st s))
+      (record { db = all.db; mine = joint-from st.world.rows st.world.writes (last_database st.world.history) (writes_in (session_at st j).transaction) mine_before (all.own s) apart; others = all.own j })
 
   stepped_alone : Scene_stands None after_scene
   stepped_alone =

@@ -1,25 +1,12 @@
--- Every run ends, in one way by default, and its replies are those of the statements in their order.
+-- The replies of a session are those of its statements in their order.
 use Rattle.std.specs.Prelude.{◌≡◌, ℕ, ◌+◌, zero, suc, ◌<◌, List, [], ◌∷◌, length, slice_get, unwrap_or}
 use Rattle.std.specs.List.{flat_map}
 use Rattle.aq_base.specs.Names.{Text, same_text}
 use Rattle.aq_base.specs.declared.trace.TraceLine.{TraceLine}
 use Rattle.aq_base.specs.declared.trace.TraceLine.TheVariants.{Reply}
 use Rattle.aq_run.specs.Programs.{Program, session_name}
-use Rattle.aq_run.specs.Measure.{EveryStepFalls}
-use Rattle.aq_run.specs.Steps.{step}
-use Rattle.aq_run.specs.Runs.{Schedule, IsSchedule, IsComplete, IsDefaultSchedule, run}
+use Rattle.aq_run.specs.Runs.{Schedule, IsSchedule, IsComplete, run}
 use Rattle.std.specs.Prelude.{if◌then◌else◌}
-
--- the four numbers of the measure fall with every step, so that no run goes on for ever
-abbrev pub EveryRunEnds : Type 0
-EveryRunEnds = EveryStepFalls step
-
-pub record HasDefault (program : Program) : Type 0 where
-  pub schedule : Schedule
-  pub by_default : IsDefaultSchedule program schedule
-
-abbrev pub DefaultScheduleExists : Type 0
-DefaultScheduleExists = (program : Program) → HasDefault program
 
 abbrev pub reply_of : Text → TraceLine → List ℕ
 reply_of name (Reply session statement) = if same_text session name then statement ∷ [] else []
