@@ -1,9 +1,10 @@
 -- In each committed transaction the events that survive and aren't replaced have fired once, for good, in their turn; and the rules of native
 -- checks held where their events were queued.
-use Rattle.std.specs.Prelude.{◌≡◌, ℕ, true, List, Option, Some, Contains, slice_get}
+use Rattle.std.specs.Prelude.{◌≡◌, ℕ, true, List, Option, Some, Ok, Contains, slice_get}
 use Rattle.aq_base.specs.Values.{Row}
 use Rattle.aq_base.specs.Names.{Text, same_text}
 use Rattle.aq_base.specs.Rules.{Rule, is_kept}
+use Rattle.aq_base.specs.declared.data.LockMode.{LockMode}
 use Rattle.aq_base.specs.declared.catalog.Does.TheVariants.{Native}
 use Rattle.aq_base.specs.declared.catalog.NativeName.{NativeName}
 use Rattle.aq_base.specs.declared.catalog.Trigger.{Trigger}
@@ -14,7 +15,13 @@ use Rattle.aq_base.specs.declared.trace.TraceLine.TheVariants.{Change}
 use Rattle.aq_lines.specs.Transactions.{committed_transactions}
 use Rattle.aq_lines.specs.Firing.{EventsFire}
 use Rattle.aq_outcomes.specs.Schemas.{Schema, rule_named, table_name}
+use Rattle.aq_outcomes.specs.Rows.{Change as Row_change}
+use Rattle.aq_outcomes.specs.Queued.{queued_by}
 use Rattle.aq_run.specs.Programs.{Program}
+use Rattle.aq_run.specs.States.{Transaction, session_at}
+use Rattle.aq_run.specs.Effects.Effect.{Changes}
+use Rattle.aq_run.specs.Rows.{wrote_old}
+use Rattle.aq_run.specs.Steps.{effects_of}
 use Rattle.aq_run.specs.Runs.{Schedule, IsSchedule, run}
 use Rattle.aq_laws.specs.Made.{IsMadeOf}
 
@@ -44,3 +51,14 @@ NativeChecksHold =
     (session table : Text) (row : ℕ) (old : Option Row) (new : Row) (events : List TraceEvent) (event : TraceEvent) (rule : Rule) →
     Contains lines (Change session table row old (Some new) events) → Contains events event → Checks_by program.schema table event.trigger rule →
     is_kept rule old new ≡ true
+
+-- the events of a change are those of the triggers that it queues for the columns that its statement or its action sets
+pub record QueuesItsEvents (program : Program) (t : Transaction) (change : Row_change) (triggers : List ℕ) : Type 0 where
+  pub set : List ℕ
+  pub queued : queued_by program.schema change set (wrote_old t change) ≡ Ok triggers
+
+abbrev pub ChangesQueueTheirEvents : Type 0
+ChangesQueueTheirEvents =
+    (program : Program) (schedule : Schedule) (s : ℕ) (change : Row_change) (lock : Option LockMode) (triggers : List ℕ) (t : Transaction) →
+    Contains (effects_of program (run program schedule) s) (Changes change lock triggers) → (session_at (run program schedule) s).transaction ≡ Some t →
+    QueuesItsEvents program t change triggers
