@@ -14,7 +14,7 @@ use Rattle.aq_locks.specs.Logs.{Lock, held_after, holdings_of, covers}
 use Rattle.aq_locks.specs.Rows.{Rows, Holders, mode_at, lock_of, locks_of, IsHeldBy, IsLogged, SetsMode}
 use Rattle.aq_locks.specs.declared.log.Taken.{Taken}
 
-held_after-append : (holdings : Holdings) (a b : List Lock) → held_after holdings (a ++ b) ≡ held_after (held_after holdings a) b
+pub held_after-append : (holdings : Holdings) (a b : List Lock) → held_after holdings (a ++ b) ≡ held_after (held_after holdings a) b
 held_after-append holdings [] b = refl
 held_after-append holdings (lock ∷ a) b = held_after-append (locked lock.0 lock.1 holdings) a b
 

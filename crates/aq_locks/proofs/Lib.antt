@@ -1,3 +1,4 @@
 pub mod Held
 pub mod Sessions
 pub mod Blocked
+pub mod Got_rows

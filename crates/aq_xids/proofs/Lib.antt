@@ -3,3 +3,4 @@ pub mod Shown
 pub mod Marked
 pub mod Begun
 pub mod Ranges
+pub mod Fates

@@ -74,7 +74,7 @@ within_kept : (b : Bool) (new : Fate) (sub : Subtransaction) → (with_fate_if b
 within_kept true new sub = refl
 within_kept false new sub = refl
 
-fate_kept : (b : Bool) (new : Fate) (sub : Subtransaction) → (with_fate_if b new sub).fate ≡ fate_if b new sub.fate
+pub fate_kept : (b : Bool) (new : Fate) (sub : Subtransaction) → (with_fate_if b new sub).fate ≡ fate_if b new sub.fate
 fate_kept true new sub = refl
 fate_kept false new sub = refl
 

@@ -50,6 +50,24 @@ holder_by (Committed number) = None
 abbrev pub holder : ℕ → Subtransactions → Option ℕ
 holder number subs = holder_by (fate_of number subs.all)
 
+abbrev pub commit_by : Fate → Option ℕ
+commit_by (Held number) = None
+commit_by Void = None
+commit_by (Committed number) = Some number
+
+-- the number with which what a subtransaction did was committed
+abbrev pub commit_of : ℕ → Subtransactions → Option ℕ
+commit_of number subs = commit_by (fate_of number subs.all)
+
+abbrev pub is_void : Fate → Bool
+is_void (Held number) = false
+is_void Void = true
+is_void (Committed number) = false
+
+-- what it did was undone
+abbrev pub is_undone : ℕ → Subtransactions → Bool
+is_undone number subs = is_void (fate_of number subs.all)
+
 abbrev pub is_held : Fate → Bool
 is_held (Held number) = true
 is_held Void = false

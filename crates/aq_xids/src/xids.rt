@@ -1,7 +1,7 @@
 //! The subtransactions of all sessions.
 
 ghost use Rattle.std.specs.Prelude.{◌≡◌, ◌+◌, true, false, length, option_map, IfOk, OnErr};
-ghost use Rattle.aq_xids.specs.Subtransactions.{none_begun, next_number, begun, begun_in, ended, aborted, committed, runs, is_inner, holder, owner, sees, numbered, same_top, session_while_held};
+ghost use Rattle.aq_xids.specs.Subtransactions.{none_begun, next_number, begun, begun_in, ended, aborted, committed, runs, is_inner, holder, owner, commit_of, is_undone, sees, numbered, same_top, session_while_held};
 ghost use Rattle.aq_xids.specs.Kept.{all_shown, IsTree};
 
 use crate::SessNo;
@@ -124,6 +124,28 @@ impl Xids {
         match fate_in(&self.subs, sub.0) {
             Fate::Held(number) => Some(SubNo(number)),
             _ => None,
+        }
+    }
+
+    /// The number with which what the subtransaction did was committed.
+    pub fn commit_of(&self, sub: SubNo) -> Option<u64>
+        ensures { result ≡ commit_of sub.0 self.now }
+    {
+        match fate_in(&self.subs, sub.0) {
+            Fate::Committed(number) => Some(number),
+            Fate::Held(_) => None,
+            Fate::Void => None,
+        }
+    }
+
+    /// Whether what the subtransaction did was undone.
+    pub fn is_undone(&self, sub: SubNo) -> bool
+        ensures { result ≡ is_undone sub.0 self.now }
+    {
+        match fate_in(&self.subs, sub.0) {
+            Fate::Void => true,
+            Fate::Held(_) => false,
+            Fate::Committed(_) => false,
         }
     }
 
