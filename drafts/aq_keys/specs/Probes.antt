@@ -1,0 +1,5 @@
+-- What a probe for a key answers (PostgreSQL source, nbtinsert.c, _bt_check_unique). Draft.
+--   Held by: members by = key_blockers (session of own) (last database) (for each session: the writes under each of its running subtransactions) table cols key skip, and not []
+--   Taken row: that list is [], and row is the first row but skip, by number, that the latest view of own has with the key
+--   Free: neither
+-- for every table and cols that the records of the key fit.
