@@ -1,0 +1,17 @@
+pub mod Programs
+pub mod States
+pub mod Waits
+pub mod Faults
+pub mod Lines
+pub mod Effects
+pub mod Replies
+pub mod Plans
+pub mod Starts
+pub mod Rows
+pub mod Events
+pub mod Bodies
+pub mod Errors
+pub mod Steps
+pub mod Runs
+pub mod Measure
+pub mod Texts

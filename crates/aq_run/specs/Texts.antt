@@ -1,0 +1,56 @@
+-- The text of a run, as it is printed.
+use Rattle.std.specs.Prelude.{ℕ, ◌+◌, Bool, List, [], ◌∷◌, ◌++◌, map, codes, if◌then◌else◌}
+use Rattle.std.specs.List.{flat_map}
+use Rattle.aq_base.specs.Values.{Row}
+use Rattle.aq_base.specs.Names.{Text}
+use Rattle.aq_base.specs.Databases.{Database, rows_of, last_database}
+use Rattle.aq_base.specs.declared.catalog.Table.{Table}
+use Rattle.aq_base.specs.declared.trace.TraceLine.{TraceLine}
+use Rattle.aq_texts.specs.Written.{name_text}
+use Rattle.aq_texts.specs.Rows.{line, joined, row_text}
+use Rattle.aq_texts.specs.Replies.{reply_line}
+use Rattle.aq_texts.specs.Schedules.{name_at, schedule_line}
+use Rattle.aq_texts.specs.Traces.{trace_line}
+use Rattle.aq_run.specs.Programs.{Program}
+use Rattle.aq_run.specs.States.{Given, State}
+use Rattle.aq_run.specs.Runs.{Schedule, run}
+
+-- ---- replies
+
+abbrev pub given_text : List Text → Given → Text
+given_text names given = reply_line (name_at names given.session) given.statement given.line
+
+abbrev pub replies_text : List Text → List Given → Text
+replies_text names replies = flat_map (given_text names) replies
+
+-- ---- tables
+
+-- the rows of a table, by their numbers
+abbrev pub table_rows : ℕ → Database → List Row
+table_rows table db = map (λ entry. entry.1.values) (rows_of table db)
+
+abbrev pub table_text : Table → List Row → Text
+table_text table rows =
+    line (codes "table " ++ name_text table.name ++ codes " (" ++ joined (map (λ col. name_text col.name) table.cols) ++ codes ")")
+    ++ flat_map (λ row. line (row_text row)) rows
+
+-- the tables in creation order, from a first number on
+abbrev pub tables_text : ℕ → List Table → Database → Text
+tables_text number [] db = []
+tables_text number (table ∷ tables) db = table_text table (table_rows number db) ++ tables_text (number + 1) tables db
+
+-- ---- the trace, where it is asked for
+
+abbrev pub trace_text : Bool → List TraceLine → Text
+trace_text asked trace = if asked then flat_map trace_line trace else []
+
+-- ---- all of it
+
+-- the replies in their order, the tables of the last database, the trace, the schedule
+abbrev pub text_of : Program → State → Schedule → Bool → Text
+text_of program st schedule traced =
+    replies_text program.names st.world.replies
+    ++ (tables_text 0 program.schema.catalog.tables (last_database st.world.history) ++ (trace_text traced st.world.trace ++ schedule_line program.names schedule))
+
+abbrev pub text : Program → Schedule → Bool → Text
+text program schedule traced = text_of program (run program schedule) schedule traced
