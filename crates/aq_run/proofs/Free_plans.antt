@@ -37,13 +37,14 @@ use Rattle.aq_run.specs.Effects.Effect.{Locks, Changes, Turns, Queues}
 use Rattle.aq_run.specs.Plans.{Plan}
 use Rattle.aq_run.specs.Plans.Plan.{Does_all, Would_wait, Fails}
 use Rattle.aq_run.specs.Rows.{has_room, with_room, on_triggers, changing, within_changes, wrote_old, on_outcome, target_outcome, end_plan, changing_plan, on_locked, locking_plan, locked_plan, wish_of, test_of, select_test, op_of}
-use Rattle.aq_run.proofs.Free_rows.{Lock_free, Is_free, putting-free, row_step-free}
+use Rattle.aq_run.proofs.Free_rows.{Change_fits, Is_free, putting-free, row_step-free}
+use Rattle.aq_base.specs.Writes.{Writes}
 
 -- what an effect of a session rests on
-abbrev pub Is_allowed : Catalog → Around → ℕ → Effect → Type 0
-Is_allowed cat others s (Locks row mode) = ask_blockers cat others s (For_row row mode) ≡ []
-Is_allowed cat others s (Changes change lock triggers) = Lock_free cat others s change.row lock
-Is_allowed cat others s _ = Unit {0}
+abbrev pub Is_allowed : Catalog → Around → ℕ → Writes → Effect → Type 0
+Is_allowed cat others s mine (Locks row mode) = ask_blockers cat others s (For_row row mode) ≡ []
+Is_allowed cat others s mine (Changes change lock triggers) = Change_fits cat others s mine change lock
+Is_allowed cat others s mine _ = Unit {0}
 
 abbrev pub Each : (Effect → Type 0) → List Effect → Type 0
 Each P [] = Unit {0}
@@ -53,81 +54,83 @@ pub Each-append : (P : Effect → Type 0) (some more : List Effect) → Each P s
 Each-append P [] more each each' = each'
 Each-append P (e ∷ some) more each each' = (each.0, Each-append P some more each.1 each')
 
-abbrev pub Is_plan : Catalog → Around → ℕ → Plan → Type 0
-Is_plan cat others s (Does_all effects) = Each (Is_allowed cat others s) effects
-Is_plan cat others s (Would_wait ask) = Unit {0}
-Is_plan cat others s (Fails before fault) = Each (Is_allowed cat others s) before
+abbrev pub Is_plan : Catalog → Around → ℕ → Writes → Plan → Type 0
+Is_plan cat others s mine (Does_all effects) = Each (Is_allowed cat others s mine) effects
+Is_plan cat others s mine (Would_wait ask) = Unit {0}
+Is_plan cat others s mine (Fails before fault) = Each (Is_allowed cat others s mine) before
 
 -- ---- rows
 
-module _ (schema : Schema) (others : Around) (s : ℕ) where
-  with_room-plan : (room : Bool) (plan : Plan) → Is_plan schema.catalog others s plan → Is_plan schema.catalog others s (with_room room plan)
+module _ (schema : Schema) (others : Around) (s : ℕ) (mine : Writes) where
+  with_room-plan : (room : Bool) (plan : Plan) → Is_plan schema.catalog others s mine plan → Is_plan schema.catalog others s mine (with_room room plan)
   with_room-plan true plan is = is
   with_room-plan false plan is = tt
 
   pub on_triggers-plan : (t : Transaction) (effects : List ℕ → List Effect) (triggers : Result (List ℕ) Kind) →
-      ((found : List ℕ) → Each (Is_allowed schema.catalog others s) (effects found)) → Is_plan schema.catalog others s (on_triggers t effects triggers)
+      ((found : List ℕ) → Each (Is_allowed schema.catalog others s mine) (effects found)) → Is_plan schema.catalog others s mine (on_triggers t effects triggers)
   on_triggers-plan t effects (Err kind) each = tt
   on_triggers-plan t effects (Ok found) each = with_room-plan (has_room t found) (Does_all (effects found)) (each found)
 
-  within_changes-plan : (room : Bool) (plan : Plan) → Is_plan schema.catalog others s plan → Is_plan schema.catalog others s (within_changes room plan)
+  within_changes-plan : (room : Bool) (plan : Plan) → Is_plan schema.catalog others s mine plan → Is_plan schema.catalog others s mine (within_changes room plan)
   within_changes-plan true plan is = is
   within_changes-plan false plan is = tt
 
-  changing-plan : (t : Transaction) (set : List ℕ) (change : Change) (lock : Option LockMode) (next : Task) → Lock_free schema.catalog others s change.row lock →
-      Is_plan schema.catalog others s (changing schema t set change lock next)
+  changing-plan : (t : Transaction) (set : List ℕ) (change : Change) (lock : Option LockMode) (next : Task) → Change_fits schema.catalog others s mine change lock →
+      Is_plan schema.catalog others s mine (changing schema t set change lock next)
   changing-plan t set change lock next free =
       within_changes-plan (nat_lt t.changes change_limit) (on_triggers t (λ triggers. Changes change lock triggers ∷ Turns next ∷ []) (queued_by schema change set (wrote_old t change)))
       (on_triggers-plan t (λ triggers. Changes change lock triggers ∷ Turns next ∷ []) (queued_by schema change set (wrote_old t change)) (λ found. (free, (tt, tt))))
 
-  pub on_outcome-plan : (row : ℕ) (t : Transaction) (set : List ℕ) (changed : Task) (locked : Row → Task) (passed : Task) (outcome : Outcome) → Is_free schema.catalog others s row outcome →
-      Is_plan schema.catalog others s (on_outcome schema t set changed locked passed outcome)
+  pub on_outcome-plan : (row : ℕ) (t : Transaction) (set : List ℕ) (changed : Task) (locked : Row → Task) (passed : Task) (outcome : Outcome) → Is_free schema.catalog others s mine row outcome →
+      Is_plan schema.catalog others s mine (on_outcome schema t set changed locked passed outcome)
   on_outcome-plan row t set changed locked passed (Done change lock) free = changing-plan t set change lock changed free
   on_outcome-plan row t set changed locked passed (Locked mode values) free = (tt, tt)
   on_outcome-plan row t set changed locked passed Passed_over free = (tt, tt)
   on_outcome-plan row t set changed locked passed (Waits ask) free = tt
   on_outcome-plan row t set changed locked passed (Faulty fault) free = tt
 
-  insert_step-free : (me : Party) (table : ℕ) (new : Row) → Is_free schema.catalog others s 0 (insert_step schema others me table new)
-  unfolding insert_step
-  insert_step-free me table new = putting-free schema.catalog others s 0 schema me (keys_of schema.catalog table) (record { table = table; row = None; op = ops.Insert; old = None; new = Some new }) None new tt
-
-  end_plan-plan : (t : Transaction) (place : Place) (change : Change_of_rows) (done : ℕ) → Is_plan schema.catalog others s (end_plan schema t place change done)
+  end_plan-plan : (t : Transaction) (place : Place) (change : Change_of_rows) (done : ℕ) → Is_plan schema.catalog others s mine (end_plan schema t place change done)
   end_plan-plan t place change done =
       on_triggers-plan t (λ triggers. Queues (table_of change) (op_of change) triggers ∷ Turns (Rounds place done) ∷ [])
       (queued_by_statement schema (table_of change) (op_of change) (set_columns change)) (λ found. (tt, (tt, tt)))
 
+module _ (schema : Schema) (others : Around) (me : Party) where
+  insert_step-free : (table : ℕ) (new : Row) → Is_free schema.catalog others me.session me.writes 0 (insert_step schema others me table new)
+  unfolding insert_step
+  insert_step-free table new =
+      putting-free schema others me 0 (keys_of schema.catalog table) (record { table = table; row = None; op = ops.Insert; old = None; new = Some new }) None new (λ puts. (refl, puts))
+
 module _ (schema : Schema) (others : Around) (s : ℕ) (t : Transaction) where
   pub changing_plan-plan : (env : Surroundings) (change : Change_of_rows) (place : Place) (left : List Target) (done : ℕ) →
-      Is_plan schema.catalog others s (changing_plan schema others (party s t) t env change place left done)
-  changing_plan-plan env change place [] done = end_plan-plan schema others s t place change done
+      Is_plan schema.catalog others s t.work.writes (changing_plan schema others (party s t) t env change place left done)
+  changing_plan-plan env change place [] done = end_plan-plan schema others s t.work.writes t place change done
   changing_plan-plan env change place (New_row values ∷ left) done =
-      on_outcome-plan schema others s 0 t (set_columns change) (Changing place left (done + 1)) (λ values. Changing place left done) (Changing place left done) (target_outcome schema others (party s t) env change (New_row values)) (insert_step-free schema others s (party s t) (table_of change) values)
+      on_outcome-plan schema others s t.work.writes 0 t (set_columns change) (Changing place left (done + 1)) (λ values. Changing place left done) (Changing place left done) (target_outcome schema others (party s t) env change (New_row values)) (insert_step-free schema others (party s t) (table_of change) values)
   changing_plan-plan env change place (Old_row row ∷ left) done =
-      on_outcome-plan schema others s row t (set_columns change) (Changing place left (done + 1)) (λ values. Changing place left done) (Changing place left done) (target_outcome schema others (party s t) env change (Old_row row)) (row_step-free schema others (party s t) (table_of change) row (wish_of schema env change) (test_of env change))
+      on_outcome-plan schema others s t.work.writes row t (set_columns change) (Changing place left (done + 1)) (λ values. Changing place left done) (Changing place left done) (target_outcome schema others (party s t) env change (Old_row row)) (row_step-free schema others (party s t) (table_of change) row (wish_of schema env change) (test_of env change))
 
 -- ---- a locking SELECT
 
-module _ (schema : Schema) (others : Around) (s : ℕ) where
-  on_locked-plan : (row : ℕ) (select : Select) (left : List ℕ) (found : List Row) (outcome : Outcome) → Is_free schema.catalog others s row outcome →
-      Is_plan schema.catalog others s (on_locked row select left found outcome)
+module _ (schema : Schema) (others : Around) (s : ℕ) (mine : Writes) where
+  on_locked-plan : (row : ℕ) (select : Select) (left : List ℕ) (found : List Row) (outcome : Outcome) → Is_free schema.catalog others s mine row outcome →
+      Is_plan schema.catalog others s mine (on_locked row select left found outcome)
   on_locked-plan row select left found (Done change lock) free = (tt, tt)
   on_locked-plan row select left found (Locked mode values) free = (free, (tt, tt))
   on_locked-plan row select left found Passed_over free = (tt, tt)
   on_locked-plan row select left found (Waits ask) free = tt
   on_locked-plan row select left found (Faulty fault) free = tt
 
-  locked_plan-plan : (block : Block_state) (found : List Row) → Is_plan schema.catalog others s (locked_plan block found)
+  locked_plan-plan : (block : Block_state) (found : List Row) → Is_plan schema.catalog others s mine (locked_plan block found)
   locked_plan-plan Idle found = (tt, (tt, tt))
   locked_plan-plan Open found = (tt, (tt, tt))
   locked_plan-plan Failed found = (tt, (tt, tt))
 
 module _ (schema : Schema) (others : Around) (s : ℕ) (t : Transaction) where
   pub locking_plan-plan : (block : Block_state) (select : Select) (mode : LockMode) (left : List ℕ) (found : List Row) →
-      Is_plan schema.catalog others s (locking_plan schema others (party s t) block select mode left found)
-  locking_plan-plan block select mode [] found = locked_plan-plan schema others s block found
+      Is_plan schema.catalog others s t.work.writes (locking_plan schema others (party s t) block select mode left found)
+  locking_plan-plan block select mode [] found = locked_plan-plan schema others s t.work.writes block found
   locking_plan-plan block select mode (row ∷ left) found =
-      on_locked-plan schema others s row select left found (row_step schema others (party s t) select.table (To_lock mode) (select_test select) row)
+      on_locked-plan schema others s t.work.writes row select left found (row_step schema others (party s t) select.table (To_lock mode) (select_test select) row)
       (row_step-free schema others (party s t) select.table row (To_lock mode) (select_test select))
 
 -- ---- checks

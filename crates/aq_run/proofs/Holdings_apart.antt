@@ -21,9 +21,11 @@ use Rattle.aq_base.specs.Names.{Text}
 use Rattle.aq_run.specs.Effects.{Effect, Scene, effect, effects, on_session, with_lock, with_lock_in, with_set, opening_of, latest_saved, copied_work, standing_saved, returned, saving, changed, queued, row_of, taking_round}
 use Rattle.aq_run.specs.Effects.Effect.{Counts_step, Begins, Fixes_snapshot, Opens, Closes_level, Closes_rounds, Takes_round, Locks, Changes, Queues, Closes_set, Finishes, Sets_mode, Saves, Releases, Returns, Commits, Aborts}
 use Rattle.aq_outcomes.specs.Rows.{Change}
-use Rattle.aq_run.proofs.Free_rows.{Lock_free}
+use Rattle.aq_base.specs.Values.{Row}
+use Rattle.aq_base.specs.Writes.{Writes}
+use Rattle.aq_run.proofs.Free_rows.{Fits_parts, Changes_row}
 use Rattle.aq_run.proofs.Free_plans.{Is_allowed, Each}
-use Rattle.aq_run.proofs.Free_steps.{effects_are_allowed}
+use Rattle.aq_run.proofs.Free_steps.{writes_in, effects_are_allowed}
 use Rattle.aq_base.specs.declared.data.LockMode.TheVariants.{Update, NoKeyUpdate, Share, KeyShare}
 use Rattle.aq_base.proofs.Maps.{at-with_at_same, at-with_at_other}
 use Rattle.aq_run.proofs.Copies_fit.{is_at_most, Fits, Holds, Session_fits, Copies_fit, Copies_fit-drop, on_session-fits, All_fit, step-fits, opening-fit}
@@ -189,19 +191,21 @@ effects-apart theirs program s (e ∷ es) scene free fits apart =
 row-free : (st : State) (s j row : ℕ) (mode : LockMode) → j ≢ s → row_blockers s (map held_by st.sessions) row mode ≡ [] → conflicts_with mode (at row (held_by (session_at st j))) ≡ false
 row-free st s j row mode other none = none_passes (λ held. conflicts_with mode (at row held)) refl st.sessions 0 s none j (λ same. other (omega (arith, same)))
 
-lock-free : (program : Program) (st : State) (s j : ℕ) (row : Option ℕ) (lock : Option LockMode) → j ≢ s → Lock_free program.schema.catalog (around st) s row lock → Free_against (held_by (session_at st j)) row lock
-lock-free program st s j row None other free = tt
-lock-free program st s j None (Some mode) other free = free
-lock-free program st s j (Some row) (Some mode) other free = row-free st s j row mode other free
+lock-free : (program : Program) (st : State) (s j : ℕ) (mine : Writes) (change : Change) (row : Option ℕ) (old new : Option Row) (lock : Option LockMode) → j ≢ s →
+    Fits_parts program.schema.catalog (around st) s mine change row old new lock → Free_against (held_by (session_at st j)) row lock
+lock-free program st s j mine change None None (Some new) None other fits = tt
+lock-free program st s j mine change (Some row) (Some old) new (Some mode) other fits = row-free st s j row mode other fits.free
+lock-free program st s j mine change row old new None other fits = tt
+lock-free program st s j mine change row old new lock other fits = absurd fits
 
-effect-free : (program : Program) (st : State) (s j : ℕ) (e : Effect) → j ≢ s → Is_allowed program.schema.catalog (around st) s e → Is_free_against (held_by (session_at st j)) e
-effect-free program st s j (Locks row mode) other free = row-free st s j row mode other free
-effect-free program st s j (Changes change lock triggers) other free = lock-free program st s j change.row lock other free
-effect-free program st s j _ other free = tt
+effect-free : (program : Program) (st : State) (s j : ℕ) (mine : Writes) (e : Effect) → j ≢ s → Is_allowed program.schema.catalog (around st) s mine e → Is_free_against (held_by (session_at st j)) e
+effect-free program st s j mine (Locks row mode) other free = row-free st s j row mode other free
+effect-free program st s j mine (Changes change lock triggers) other fits = lock-free program st s j mine change change.row change.old change.new lock other fits
+effect-free program st s j mine _ other free = tt
 
-each-free : (program : Program) (st : State) (s j : ℕ) (es : List Effect) → j ≢ s → Each (Is_allowed program.schema.catalog (around st) s) es → Each (Is_free_against (held_by (session_at st j))) es
-each-free program st s j [] other each = tt
-each-free program st s j (e ∷ es) other each = (effect-free program st s j e other each.0, each-free program st s j es other each.1)
+each-free : (program : Program) (st : State) (s j : ℕ) (mine : Writes) (es : List Effect) → j ≢ s → Each (Is_allowed program.schema.catalog (around st) s mine) es → Each (Is_free_against (held_by (session_at st j))) es
+each-free program st s j mine [] other each = tt
+each-free program st s j mine (e ∷ es) other each = (effect-free program st s j mine e other each.0, each-free program st s j mine es other each.1)
 
 -- ---- every state of every run
 
@@ -225,7 +229,7 @@ module _ (program : Program) (st : State) (s : ℕ) (fit : All_fit st) (apart : 
   stepped-apart : (j : ℕ) → j ≢ s → Apart (held_by after) (held_by (session_at st j))
   stepped-apart j other =
       effects-apart (held_by (session_at st j)) program s (effects_of program st s) (scene_of st s)
-      (each-free program st s j (effects_of program st s) other (effects_are_allowed program st s)) (fit s) (apart s j (λ same. other (sym same)))
+      (each-free program st s j (writes_in (session_at st s).transaction) (effects_of program st s) other (effects_are_allowed program st s)) (fit s) (apart s j (λ same. other (sym same)))
 
   step-apart : All_apart (step program st s)
   unfolding step
