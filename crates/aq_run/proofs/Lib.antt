@@ -1,5 +1,7 @@
 pub mod Tables
 pub mod Effected
+pub mod Views
+pub mod Parts
 pub mod Free_rows
 pub mod Free_plans
 pub mod Free_events
