@@ -28,15 +28,15 @@ use Rattle.aq_run.specs.Effects.Effect.{Fires, Finishes, Queues}
 use Rattle.aq_run.specs.Plans.{Plan}
 use Rattle.aq_run.specs.Events.{on_checked, lock_effects, check_plan, parent_plan, parent_action_plan, on_trigger, on_does, set_effects, reads_set, native_plan, rule_plan, new_of, action_step, after_action, on_action, action_plan, on_recheck, recheck_plan, key_of_event, with_first_event, round_plan, take_or}
 use Rattle.aq_run.proofs.Free_rows.{row_step-free}
-use Rattle.aq_run.proofs.Free_plans.{Is_allowed, Each, Each-append, Is_plan, Is_checked, on_outcome-plan, on_triggers-plan, child_check-free, no_action_check-free, restrict_check-free}
+use Rattle.aq_run.proofs.Free_plans.{Is_allowed, Each, Is_plan, done-append, Is_checked, on_outcome-plan, on_triggers-plan, child_check-free, no_action_check-free, restrict_check-free}
 
 module _ (schema : Schema) (others : Around) (s : ℕ) (mine : Writes) where
-  on_checked-plan : (f : ForeignKey) (before : List Effect) (number : ℕ) (ending : Ending) (checked : Checked) → Each (Is_allowed schema.catalog others s mine) before → Is_checked others s checked →
+  on_checked-plan : (f : ForeignKey) (before : List Effect) (number : ℕ) (ending : Ending) (checked : Checked) → Each (Is_allowed schema.catalog others s) before → Is_checked others s checked →
       Is_plan schema.catalog others s mine (on_checked schema f before number ending checked)
-  on_checked-plan f before number ending (Passes None) each free = Each-append (Is_allowed schema.catalog others s mine) before (Finishes number ending ∷ []) each (tt, tt)
+  on_checked-plan f before number ending (Passes None) each free = done-append schema.catalog others s mine before (Finishes number ending ∷ []) each (tt, tt)
   on_checked-plan f before number ending (Passes (Some row)) each free =
-      Each-append (Is_allowed schema.catalog others s mine) before (lock_effects (Some row) ++ Finishes number ending ∷ []) each (free, (tt, tt))
-  on_checked-plan f before number ending Skips each free = Each-append (Is_allowed schema.catalog others s mine) before (Finishes number endings.Skipped ∷ []) each (tt, tt)
+      done-append schema.catalog others s mine before (lock_effects (Some row) ++ Finishes number ending ∷ []) each (free, (tt, tt))
+  on_checked-plan f before number ending Skips each free = done-append schema.catalog others s mine before (Finishes number endings.Skipped ∷ []) each (tt, tt)
   on_checked-plan f before number ending (Waits_for ask) each free = tt
   on_checked-plan f before number ending Mixed each free = each
   on_checked-plan f before number ending (Missing key database) each free = each
@@ -57,7 +57,7 @@ module _ (schema : Schema) (others : Around) (me : Party) where
   parent_plan-plan event None = (tt, (tt, tt))
   parent_plan-plan event (Some f) = action-plan event f (action_of f event.op)
 
-  opening-plan : (event : Event) (reads : Bool) → Each (Is_allowed schema.catalog others me.session me.writes) (set_effects event reads)
+  opening-plan : (event : Event) (reads : Bool) → Each (Is_allowed schema.catalog others me.session) (set_effects event reads)
   opening-plan event true = (tt, tt)
   opening-plan event false = tt
 
@@ -89,7 +89,7 @@ module _ (schema : Schema) (others : Around) (me : Party) where
   round_plan-plan work [] done is = take_or-plan (next_round (is_deferred schema work.modes) work work.opened) done is
 
 module _ (schema : Schema) (others : Around) (s : ℕ) (t : Transaction) where
-  after_action-allowed : (event : Event) (action : Action) (done : ℕ) → Is_allowed schema.catalog others s t.work.writes (after_action event action done)
+  after_action-allowed : (event : Event) (action : Action) (done : ℕ) → Is_allowed schema.catalog others s (after_action event action done)
   after_action-allowed event actions.SetDefault done = tt
   after_action-allowed event _ done = tt
 

@@ -40,11 +40,11 @@ use Rattle.aq_run.specs.Rows.{has_room, with_room, on_triggers, changing, within
 use Rattle.aq_run.proofs.Free_rows.{Change_fits, Is_free, putting-free, row_step-free}
 use Rattle.aq_base.specs.Writes.{Writes}
 
--- what an effect of a session rests on
-abbrev pub Is_allowed : Catalog → Around → ℕ → Writes → Effect → Type 0
-Is_allowed cat others s mine (Locks row mode) = ask_blockers cat others s (For_row row mode) ≡ []
-Is_allowed cat others s mine (Changes change lock triggers) = Change_fits cat others s mine change lock
-Is_allowed cat others s mine _ = Unit {0}
+-- what an effect of a session rests on, other than the change of a row
+abbrev pub Is_allowed : Catalog → Around → ℕ → Effect → Type 0
+Is_allowed cat others s (Locks row mode) = ask_blockers cat others s (For_row row mode) ≡ []
+Is_allowed cat others s (Changes change lock triggers) = ⊥
+Is_allowed cat others s _ = Unit {0}
 
 abbrev pub Each : (Effect → Type 0) → List Effect → Type 0
 Each P [] = Unit {0}
@@ -54,10 +54,23 @@ pub Each-append : (P : Effect → Type 0) (some more : List Effect) → Each P s
 Each-append P [] more each each' = each'
 Each-append P (e ∷ some) more each each' = (each.0, Each-append P some more each.1 each')
 
+-- what a step does: the change of a row and nothing beside it, or none
+abbrev pub Is_done : Catalog → Around → ℕ → Writes → List Effect → Type 0
+Is_done cat others s mine (Changes change lock triggers ∷ Turns task ∷ []) = Change_fits cat others s mine change lock
+Is_done cat others s mine effects = Each (Is_allowed cat others s) effects
+
+Is_done-each : (cat : Catalog) (others : Around) (s : ℕ) (mine : Writes) (effects : List Effect) → Each (Is_allowed cat others s) effects → Is_done cat others s mine effects
+Is_done-each cat others s mine (Changes change lock triggers ∷ es) each = absurd each.0
+Is_done-each cat others s mine es each = each
+
 abbrev pub Is_plan : Catalog → Around → ℕ → Writes → Plan → Type 0
-Is_plan cat others s mine (Does_all effects) = Each (Is_allowed cat others s mine) effects
+Is_plan cat others s mine (Does_all effects) = Is_done cat others s mine effects
 Is_plan cat others s mine (Would_wait ask) = Unit {0}
-Is_plan cat others s mine (Fails before fault) = Each (Is_allowed cat others s mine) before
+Is_plan cat others s mine (Fails before fault) = Each (Is_allowed cat others s) before
+
+pub done-append : (cat : Catalog) (others : Around) (s : ℕ) (mine : Writes) (some more : List Effect) → Each (Is_allowed cat others s) some → Each (Is_allowed cat others s) more →
+    Is_plan cat others s mine (Does_all (some ++ more))
+done-append cat others s mine some more each each' = Is_done-each cat others s mine (some ++ more) (Each-append (Is_allowed cat others s) some more each each')
 
 -- ---- rows
 
@@ -67,7 +80,7 @@ module _ (schema : Schema) (others : Around) (s : ℕ) (mine : Writes) where
   with_room-plan false plan is = tt
 
   pub on_triggers-plan : (t : Transaction) (effects : List ℕ → List Effect) (triggers : Result (List ℕ) Kind) →
-      ((found : List ℕ) → Each (Is_allowed schema.catalog others s mine) (effects found)) → Is_plan schema.catalog others s mine (on_triggers t effects triggers)
+      ((found : List ℕ) → Is_done schema.catalog others s mine (effects found)) → Is_plan schema.catalog others s mine (on_triggers t effects triggers)
   on_triggers-plan t effects (Err kind) each = tt
   on_triggers-plan t effects (Ok found) each = with_room-plan (has_room t found) (Does_all (effects found)) (each found)
 
@@ -79,7 +92,7 @@ module _ (schema : Schema) (others : Around) (s : ℕ) (mine : Writes) where
       Is_plan schema.catalog others s mine (changing schema t set change lock next)
   changing-plan t set change lock next free =
       within_changes-plan (nat_lt t.changes change_limit) (on_triggers t (λ triggers. Changes change lock triggers ∷ Turns next ∷ []) (queued_by schema change set (wrote_old t change)))
-      (on_triggers-plan t (λ triggers. Changes change lock triggers ∷ Turns next ∷ []) (queued_by schema change set (wrote_old t change)) (λ found. (free, (tt, tt))))
+      (on_triggers-plan t (λ triggers. Changes change lock triggers ∷ Turns next ∷ []) (queued_by schema change set (wrote_old t change)) (λ found. free))
 
   pub on_outcome-plan : (row : ℕ) (t : Transaction) (set : List ℕ) (changed : Task) (locked : Row → Task) (passed : Task) (outcome : Outcome) → Is_free schema.catalog others s mine row outcome →
       Is_plan schema.catalog others s mine (on_outcome schema t set changed locked passed outcome)

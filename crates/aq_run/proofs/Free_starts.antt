@@ -36,11 +36,11 @@ use Rattle.aq_run.specs.Replies.{tag, shown_rows}
 use Rattle.aq_run.specs.Plans.{Plan}
 use Rattle.aq_run.specs.Plans.Plan.{Does_all}
 use Rattle.aq_run.specs.Starts.{begin_plan, commit_plan, rollback_plan, savepoint_plan, unless_full, release_plan, on_release, return_plan, on_return, place_of, saved_of, set_plan, mode_effects, after_modes, is_deferring, snapshot_for, snapshot_effects, before_change, before_reading, targets_or_fault, change_targets, change_plan, select_plan, reading_plan, select_or_fault, selected, refused_plan, statement_plan, start_plan}
-use Rattle.aq_run.proofs.Free_plans.{Is_allowed, Each, Each-append, Is_plan}
+use Rattle.aq_run.proofs.Free_plans.{Is_allowed, Each, Each-append, Is_plan, done-append}
 
 module _ (cat : Catalog) (others : Around) (s : ℕ) (mine : Writes) where
   abbrev pub Fine : List Effect → Type 0
-  Fine es = Each (Is_allowed cat others s mine) es
+  Fine es = Each (Is_allowed cat others s) es
 
   -- ---- transaction control
 
@@ -106,7 +106,7 @@ module _ (cat : Catalog) (others : Around) (s : ℕ) (mine : Writes) where
   set-plan : (block : Block_state) (set : BoundSet) → Is_plan cat others s mine (set_plan block set)
   set-plan Idle set = (tt, (tt, tt))
   set-plan Open set =
-      (tt, Each-append (Is_allowed cat others s mine) (mode_effects set.constraints (is_deferring set.mode)) (after_modes (is_deferring set.mode)) (mode-effects set.constraints (is_deferring set.mode)) (after-modes (is_deferring set.mode)))
+      (tt, Each-append (Is_allowed cat others s) (mode_effects set.constraints (is_deferring set.mode)) (after_modes (is_deferring set.mode)) (mode-effects set.constraints (is_deferring set.mode)) (after-modes (is_deferring set.mode)))
   set-plan Failed set = (tt, tt)
 
   -- ---- statements on rows
@@ -133,12 +133,12 @@ module _ (cat : Catalog) (others : Around) (s : ℕ) (mine : Writes) where
   pub targets-plan : (before : List Effect) (effects : List Target → List Effect) (found : Result (List Target) Value_kind) → Fine before → ((ts : List Target) → Fine (effects ts)) →
       Is_plan cat others s mine (targets_or_fault before effects found)
   targets-plan before effects (Err kind) fine each = fine
-  targets-plan before effects (Ok found) fine each = Each-append (Is_allowed cat others s mine) before (effects found) fine (each found)
+  targets-plan before effects (Ok found) fine each = done-append cat others s mine before (effects found) fine (each found)
 
   found-plan : (before : List Effect) (effects : List ℕ → List Effect) (found : Result (List ℕ) Value_kind) → Fine before → ((ts : List ℕ) → Fine (effects ts)) →
       Is_plan cat others s mine (select_or_fault before effects found)
   found-plan before effects (Err kind) fine each = fine
-  found-plan before effects (Ok found) fine each = Each-append (Is_allowed cat others s mine) before (effects found) fine (each found)
+  found-plan before effects (Ok found) fine each = done-append cat others s mine before (effects found) fine (each found)
 
 module _ (schema : Schema) (others : Around) (s : ℕ) (mine : Writes) where
   change-plan : (block : Block_state) (t : Option Transaction) (view : Database) (change : Change_of_rows) → Is_plan schema.catalog others s mine (change_plan schema block t view change)

@@ -1,5 +1,5 @@
 -- Every row that a step changes or locks is in nobody's way.
-use Rattle.std.proofs.Common.{ℕ, Bool, true, false, List, [], ◌∷◌, ◌++◌, Option, Some, None, map}
+use Rattle.std.proofs.Common.{◌≡◌, refl, sym, subst, ℕ, Bool, true, false, List, [], ◌∷◌, ◌++◌, Option, Some, None, map}
 use Rattle.std.specs.Prelude.{◌+◌, ◌-◌, zero, suc, length, nat_le, nat_lt, codes}
 use Rattle.aq_base.specs.Names.{Text}
 use Rattle.aq_base.specs.Limits.{saved_limit, level_limit, step_limit}
@@ -37,7 +37,7 @@ use Rattle.aq_run.specs.States.Block_state.{Idle, Open, Failed}
 use Rattle.aq_run.specs.Faults.{Fault, Finding, plain}
 use Rattle.aq_run.specs.Waits.{blockers, closes}
 use Rattle.aq_run.specs.Effects.{Effect, effects}
-use Rattle.aq_run.specs.Effects.Effect.{Resumes, Opens, Replies, Sets_mode, Saves, Turns, Finishes, Becomes, Refuses}
+use Rattle.aq_run.specs.Effects.Effect.{Resumes, Changes, Opens, Replies, Sets_mode, Saves, Turns, Finishes, Becomes, Refuses}
 use Rattle.aq_run.specs.Replies.{tag, error_lines}
 use Rattle.aq_run.specs.Plans.{Plan}
 use Rattle.aq_run.specs.Plans.Plan.{Does_all, Would_wait, Fails}
@@ -47,7 +47,9 @@ use Rattle.aq_run.specs.Rows.{changing_plan, locking_plan}
 use Rattle.aq_run.specs.Events.{closing, settled, committing}
 use Rattle.aq_run.specs.Errors.{Catcher, error_effects, on_catcher, catcher_of, finding_effects, undoing, put_back, latest_named, after_error}
 use Rattle.aq_run.specs.Steps.{at_work, with_change_at, with_mode, on_select, current, task_plan, is_counted, within_limit, limited_plan, on_transaction, plan_with, plan_of, count_effects, is_counted_with, counting, scene_of, failing, waiting, effects_of_plan, effects_of}
-use Rattle.aq_run.proofs.Free_plans.{Is_allowed, Each, Each-append, Is_plan, changing_plan-plan, locking_plan-plan}
+use Rattle.aq_outcomes.specs.Rows.{Change}
+use Rattle.aq_run.proofs.Free_rows.{Change_fits}
+use Rattle.aq_run.proofs.Free_plans.{Is_allowed, Each, Each-append, Is_done, Is_plan, done-append, changing_plan-plan, locking_plan-plan}
 use Rattle.aq_run.proofs.Free_events.{round_plan-plan, action_plan-plan, recheck_plan-plan}
 use Rattle.aq_run.proofs.Free_starts.{Fine, targets-plan, unless_full-plan, start_plan-plan}
 
@@ -59,7 +61,7 @@ module _ (schema : Schema) (others : Around) (s : ℕ) (mine : Writes) where
   leaving-fine (suc left) saved = (tt, tt)
 
   going_on-fine : (event : Event) (frame : Frame) (left : ℕ) (saved : List Saved) → Fine schema.catalog others s mine (going_on event frame left saved)
-  going_on-fine event frame left saved = Each-append (Is_allowed schema.catalog others s mine) (leaving left saved) (Turns (Running event frame) ∷ []) (leaving-fine left saved) (tt, tt)
+  going_on-fine event frame left saved = Each-append (Is_allowed schema.catalog others s) (leaving left saved) (Turns (Running event frame) ∷ []) (leaving-fine left saved) (tt, tt)
 
   after_modes-fine : (deferred : Bool) → Fine schema.catalog others s mine (after_modes deferred)
   after_modes-fine true = tt
@@ -76,8 +78,8 @@ module _ (schema : Schema) (others : Around) (s : ℕ) (mine : Writes) where
   set_plan-plan : (before : List Effect) (deferred : Bool) (names : Constraints) (fault : Option SqlFault) → Fine schema.catalog others s mine before → Is_plan schema.catalog others s mine (set_plan schema before deferred names fault)
   set_plan-plan before deferred names (Some fault) fine = fine
   set_plan-plan before deferred names None fine =
-      Each-append (Is_allowed schema.catalog others s mine) before (set_effects schema deferred names ++ after_modes deferred) fine
-      (Each-append (Is_allowed schema.catalog others s mine) (set_effects schema deferred names) (after_modes deferred) (set_effects-fine deferred names) (after_modes-fine deferred))
+      done-append schema.catalog others s mine before (set_effects schema deferred names ++ after_modes deferred) fine
+      (Each-append (Is_allowed schema.catalog others s) (set_effects schema deferred names) (after_modes deferred) (set_effects-fine deferred names) (after_modes-fine deferred))
 
   unless_deep-plan : (deep : Bool) (before : List Effect) (plan : Plan) → Fine schema.catalog others s mine before → Is_plan schema.catalog others s mine plan → Is_plan schema.catalog others s mine (unless_deep deep before plan)
   unless_deep-plan true before plan fine is = fine
@@ -92,10 +94,10 @@ module _ (schema : Schema) (others : Around) (s : ℕ) (mine : Writes) where
   next_plan-plan view t event height from frame before left To_enter fine =
       unless_full-plan schema.catalog others s mine (nat_le saved_limit (length t.saved - left)) before
       (Does_all (before ++ Saves (Block ((open_blocks t.saved - left) + 1) height) ∷ Turns (Running event (entered frame)) ∷ [])) fine
-      (Each-append (Is_allowed schema.catalog others s mine) before (Saves (Block ((open_blocks t.saved - left) + 1) height) ∷ Turns (Running event (entered frame)) ∷ []) fine (tt, (tt, tt)))
+      (done-append schema.catalog others s mine before (Saves (Block ((open_blocks t.saved - left) + 1) height) ∷ Turns (Running event (entered frame)) ∷ []) fine (tt, (tt, tt)))
   next_plan-plan view t event height from frame before left (To_raise text) fine = fine
   next_plan-plan view t event height from frame before left To_return fine =
-      Each-append (Is_allowed schema.catalog others s mine) (leaving (length from.blocks) t.saved) (Finishes (first_number (numbers_of (round_of t.work.opened))) endings.Ran ∷ []) (leaving-fine (length from.blocks) t.saved) (tt, tt)
+      done-append schema.catalog others s mine (leaving (length from.blocks) t.saved) (Finishes (first_number (numbers_of (round_of t.work.opened))) endings.Ran ∷ []) (leaving-fine (length from.blocks) t.saved) (tt, tt)
   next_plan-plan view t event height from frame before left To_end fine = fine
   next_plan-plan view t event height from frame before left (To_fault kind) fine = fine
 
@@ -113,7 +115,7 @@ module _ (schema : Schema) (others : Around) (s : ℕ) (mine : Writes) where
   finding-fine None = tt
   finding-fine (Some finding) = (tt, tt)
 
-  put_back-allowed : (code : Code) (place : Option ℕ) → Is_allowed schema.catalog others s mine (put_back code place)
+  put_back-allowed : (code : Code) (place : Option ℕ) → Is_allowed schema.catalog others s (put_back code place)
   put_back-allowed code None = tt
   put_back-allowed code (Some standing) = tt
 
@@ -125,12 +127,12 @@ module _ (schema : Schema) (others : Around) (s : ℕ) (mine : Writes) where
   catcher-fine : (me : Session) (fault : Fault) (catcher : Option Catcher) → Fine schema.catalog others s mine (on_catcher me fault catcher)
   catcher-fine me fault (Some catcher) = (tt, tt)
   catcher-fine me fault None =
-      (tt, Each-append (Is_allowed schema.catalog others s mine) (undoing me.block fault.told.code (saved_of me.transaction)) (Becomes (after_error me.block) ∷ Replies (fault.warnings ++ error_lines fault.told) ∷ []) (undoing-fine me.block fault.told.code (saved_of me.transaction)) (tt, (tt, tt)))
+      (tt, Each-append (Is_allowed schema.catalog others s) (undoing me.block fault.told.code (saved_of me.transaction)) (Becomes (after_error me.block) ∷ Replies (fault.warnings ++ error_lines fault.told) ∷ []) (undoing-fine me.block fault.told.code (saved_of me.transaction)) (tt, (tt, tt)))
 
   error-fine : (me : Session) (fault : Fault) → Fine schema.catalog others s mine (error_effects schema me fault)
   unfolding error_effects
   error-fine me fault =
-      Each-append (Is_allowed schema.catalog others s mine) (finding_effects fault.finding) (on_catcher me fault (catcher_of schema fault me.tasks)) (finding-fine fault.finding) (catcher-fine me fault (catcher_of schema fault me.tasks))
+      Each-append (Is_allowed schema.catalog others s) (finding_effects fault.finding) (on_catcher me fault (catcher_of schema fault me.tasks)) (finding-fine fault.finding) (catcher-fine me fault (catcher_of schema fault me.tasks))
 
 -- ---- what ends a level, the rounds of SET CONSTRAINTS and the drain
 
@@ -223,23 +225,38 @@ module _ (program : Program) (st : State) (s : ℕ) where
 
   counted-fine : (more : List Effect) → Fine program.schema.catalog (around st) s mine more → Fine program.schema.catalog (around st) s mine (Resumes ∷ (counting (session_at st s) ++ more))
   counted-fine more fine =
-      (tt, Each-append (Is_allowed program.schema.catalog (around st) s mine) (counting (session_at st s)) more (count-fine (is_counted_with (session_at st s).transaction (session_at st s).tasks)) fine)
+      (tt, Each-append (Is_allowed program.schema.catalog (around st) s) (counting (session_at st s)) more (count-fine (is_counted_with (session_at st s).transaction (session_at st s).tasks)) fine)
 
   failing-fine : (before : List Effect) (fault : Fault) → Fine program.schema.catalog (around st) s mine before → Fine program.schema.catalog (around st) s mine (failing program st s before fault)
   failing-fine before fault fine =
-      Each-append (Is_allowed program.schema.catalog (around st) s mine) before (error_effects program.schema (effects program s before (scene_of st s)).me fault) fine
+      Each-append (Is_allowed program.schema.catalog (around st) s) before (error_effects program.schema (effects program s before (scene_of st s)).me fault) fine
       (error-fine program.schema (around st) s mine (effects program s before (scene_of st s)).me fault)
 
   waiting-fine : (ask : Ask) (cycle : Option (List ℕ)) → Fine program.schema.catalog (around st) s mine (waiting program st s ask cycle)
   waiting-fine ask None = (tt, tt)
   waiting-fine ask (Some cycle) = failing-fine (Resumes ∷ (counting (session_at st s) ++ Refuses cycle ∷ [])) (plain deadlock) (counted-fine (Refuses cycle ∷ []) (tt, tt))
 
-  effects_of_plan-fine : (plan : Plan) → Is_fine mine plan → Fine program.schema.catalog (around st) s mine (effects_of_plan program st s plan)
-  effects_of_plan-fine (Does_all all) fine = counted-fine all fine
-  effects_of_plan-fine (Fails before fault) fine = failing-fine (Resumes ∷ (counting (session_at st s) ++ before)) fault (counted-fine before fine)
-  effects_of_plan-fine (Would_wait ask) fine = waiting-fine ask (closes program st s (blockers program st s ask))
+  -- the step changes a row, and does nothing else
+  pub record Changes_alone (change : Change) (lock : Option LockMode) (triggers : List ℕ) (task : Task) : Type 0 where
+    pub are : effects_of program st s ≡ Resumes ∷ (counting (session_at st s) ++ Changes change lock triggers ∷ Turns task ∷ [])
+    pub fits : Change_fits program.schema.catalog (around st) s mine change lock
+
+  pub data Kind_of_step : Type 0 where
+    Changing_a_row : (change : Change) (lock : Option LockMode) (triggers : List ℕ) (task : Task) → Changes_alone change lock triggers task → Kind_of_step
+    Without_a_change : Each (Is_allowed program.schema.catalog (around st) s) (effects_of program st s) → Kind_of_step
+
+  done-kind : (all : List Effect) → Is_done program.schema.catalog (around st) s mine all → effects_of program st s ≡ Resumes ∷ (counting (session_at st s) ++ all) → Kind_of_step
+  done-kind (Changes change lock triggers ∷ Turns task ∷ []) fits are = Changing_a_row change lock triggers task (record { are = are; fits = fits })
+  done-kind all each are = Without_a_change (subst (Each (Is_allowed program.schema.catalog (around st) s)) (sym are) (counted-fine all each))
+
+  plan-kind : (plan : Plan) → Is_fine mine plan → effects_of program st s ≡ effects_of_plan program st s plan → Kind_of_step
+  plan-kind (Does_all all) done are = done-kind all done are
+  plan-kind (Fails before fault) fine are =
+      Without_a_change (subst (Each (Is_allowed program.schema.catalog (around st) s)) (sym are) (failing-fine (Resumes ∷ (counting (session_at st s) ++ before)) fault (counted-fine before fine)))
+  plan-kind (Would_wait ask) fine are =
+      Without_a_change (subst (Each (Is_allowed program.schema.catalog (around st) s)) (sym are) (waiting-fine ask (closes program st s (blockers program st s ask))))
 
   -- whatever the state and the session
-  pub effects_are_allowed : Each (Is_allowed program.schema.catalog (around st) s mine) (effects_of program st s)
+  pub kind_of_step : Kind_of_step
   unfolding effects_of
-  effects_are_allowed = effects_of_plan-fine (plan_of program st s) plan_of-plan
+  kind_of_step = plan-kind (plan_of program st s) plan_of-plan refl

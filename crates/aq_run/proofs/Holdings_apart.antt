@@ -1,5 +1,5 @@
 -- No two transactions hold a row in modes that conflict.
-use Rattle.std.proofs.Common.{◌≡◌, ◌≢◌, ℕ, Bool, true, false, not, ◌&&◌, arith, List, [], ◌∷◌, Option, Some, None, refl, sym, ap, ◌∙◌, ⊎_elim, ◌⊎◌, inl, inr}
+use Rattle.std.proofs.Common.{◌≡◌, ◌≢◌, ℕ, Bool, true, false, not, ◌&&◌, arith, List, [], ◌∷◌, ◌++◌, subst, Option, Some, None, refl, sym, ap, ◌∙◌, ⊎_elim, ◌⊎◌, inl, inr}
 use Rattle.std.specs.Prelude.{slice_index_or, slice_set, map, nat_le, length, ◌-◌, ◌+◌, ◌==◌, zero, suc, option_map, if◌then◌else◌, unwrap_or}
 use Rattle.std.proofs.lemmas.Bool.{cases_eq, ne_eqb}
 use Rattle.std.proofs.lemmas.Bool.Decides.{nat_tests}
@@ -15,17 +15,18 @@ use Rattle.aq_base.specs.Transitions.{closed}
 use Rattle.aq_base.specs.Rounds.{without_top, without_top_level, without_first}
 use Rattle.aq_base.specs.Works.{Work, Saved, Kind}
 use Rattle.aq_run.specs.Programs.{Program}
-use Rattle.aq_run.specs.Steps.{step, effects_of, scene_of}
+use Rattle.aq_run.specs.Steps.{step, effects_of, scene_of, count_effects, is_counted_with}
 use Rattle.aq_run.specs.Runs.{Schedule, run_from, run}
 use Rattle.aq_base.specs.Names.{Text}
 use Rattle.aq_run.specs.Effects.{Effect, Scene, effect, effects, on_session, with_lock, with_lock_in, with_set, opening_of, latest_saved, copied_work, standing_saved, returned, saving, changed, queued, row_of, taking_round}
-use Rattle.aq_run.specs.Effects.Effect.{Counts_step, Begins, Fixes_snapshot, Opens, Closes_level, Closes_rounds, Takes_round, Locks, Changes, Queues, Closes_set, Finishes, Sets_mode, Saves, Releases, Returns, Commits, Aborts}
+use Rattle.aq_run.specs.Effects.Effect.{Counts_step, Turns, Begins, Fixes_snapshot, Opens, Closes_level, Closes_rounds, Takes_round, Locks, Changes, Queues, Closes_set, Finishes, Sets_mode, Saves, Releases, Returns, Commits, Aborts}
 use Rattle.aq_outcomes.specs.Rows.{Change}
 use Rattle.aq_base.specs.Values.{Row}
 use Rattle.aq_base.specs.Writes.{Writes}
 use Rattle.aq_run.proofs.Free_rows.{Fits_parts, Changes_row}
 use Rattle.aq_run.proofs.Free_plans.{Is_allowed, Each}
-use Rattle.aq_run.proofs.Free_steps.{writes_in, effects_are_allowed}
+use Rattle.aq_run.proofs.Free_steps.{writes_in, Kind_of_step, kind_of_step}
+use Rattle.aq_run.proofs.Free_steps.Kind_of_step.{Changing_a_row, Without_a_change}
 use Rattle.aq_base.specs.declared.data.LockMode.TheVariants.{Update, NoKeyUpdate, Share, KeyShare}
 use Rattle.aq_base.proofs.Maps.{at-with_at_same, at-with_at_other}
 use Rattle.aq_run.proofs.Copies_fit.{is_at_most, Fits, Holds, Session_fits, Copies_fit, Copies_fit-drop, on_session-fits, All_fit, step-fits, opening-fit}
@@ -198,14 +199,25 @@ lock-free program st s j mine change (Some row) (Some old) new (Some mode) other
 lock-free program st s j mine change row old new None other fits = tt
 lock-free program st s j mine change row old new lock other fits = absurd fits
 
-effect-free : (program : Program) (st : State) (s j : ℕ) (mine : Writes) (e : Effect) → j ≢ s → Is_allowed program.schema.catalog (around st) s mine e → Is_free_against (held_by (session_at st j)) e
-effect-free program st s j mine (Locks row mode) other free = row-free st s j row mode other free
-effect-free program st s j mine (Changes change lock triggers) other fits = lock-free program st s j mine change change.row change.old change.new lock other fits
-effect-free program st s j mine _ other free = tt
+effect-free : (program : Program) (st : State) (s j : ℕ) (e : Effect) → j ≢ s → Is_allowed program.schema.catalog (around st) s e → Is_free_against (held_by (session_at st j)) e
+effect-free program st s j (Locks row mode) other free = row-free st s j row mode other free
+effect-free program st s j (Changes change lock triggers) other none = absurd none
+effect-free program st s j _ other free = tt
 
-each-free : (program : Program) (st : State) (s j : ℕ) (mine : Writes) (es : List Effect) → j ≢ s → Each (Is_allowed program.schema.catalog (around st) s mine) es → Each (Is_free_against (held_by (session_at st j))) es
-each-free program st s j mine [] other each = tt
-each-free program st s j mine (e ∷ es) other each = (effect-free program st s j mine e other each.0, each-free program st s j mine es other each.1)
+each-free : (program : Program) (st : State) (s j : ℕ) (es : List Effect) → j ≢ s → Each (Is_allowed program.schema.catalog (around st) s) es → Each (Is_free_against (held_by (session_at st j))) es
+each-free program st s j [] other each = tt
+each-free program st s j (e ∷ es) other each = (effect-free program st s j e other each.0, each-free program st s j es other each.1)
+
+counted-free : (theirs : Holdings) (counted : Bool) (es : List Effect) → Each (Is_free_against theirs) es → Each (Is_free_against theirs) (count_effects counted ++ es)
+counted-free theirs true es each = (tt, each)
+counted-free theirs false es each = each
+
+step-free : (program : Program) (st : State) (s j : ℕ) → j ≢ s → Kind_of_step program st s → Each (Is_free_against (held_by (session_at st j))) (effects_of program st s)
+step-free program st s j other (Changing_a_row change lock triggers task changes) =
+    subst (Each (Is_free_against (held_by (session_at st j)))) (sym changes.are)
+    (tt, counted-free (held_by (session_at st j)) (is_counted_with (session_at st s).transaction (session_at st s).tasks) (Changes change lock triggers ∷ Turns task ∷ [])
+    (lock-free program st s j (writes_in (session_at st s).transaction) change change.row change.old change.new lock other changes.fits, (tt, tt)))
+step-free program st s j other (Without_a_change each) = each-free program st s j (effects_of program st s) other each
 
 -- ---- every state of every run
 
@@ -229,7 +241,7 @@ module _ (program : Program) (st : State) (s : ℕ) (fit : All_fit st) (apart : 
   stepped-apart : (j : ℕ) → j ≢ s → Apart (held_by after) (held_by (session_at st j))
   stepped-apart j other =
       effects-apart (held_by (session_at st j)) program s (effects_of program st s) (scene_of st s)
-      (each-free program st s j (writes_in (session_at st s).transaction) (effects_of program st s) other (effects_are_allowed program st s)) (fit s) (apart s j (λ same. other (sym same)))
+      (step-free program st s j other (kind_of_step program st s)) (fit s) (apart s j (λ same. other (sym same)))
 
   step-apart : All_apart (step program st s)
   unfolding step
