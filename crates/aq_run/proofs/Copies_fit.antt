@@ -26,13 +26,13 @@ use Rattle.aq_base.specs.declared.data.LockMode.TheVariants.{Update, NoKeyUpdate
 abbrev pub is_at_most : LockMode → LockMode → Bool
 is_at_most a b = nat_le (strength a) (strength b)
 
-at_most-self : (a : LockMode) → is_at_most a a ≡ true
+pub at_most-self : (a : LockMode) → is_at_most a a ≡ true
 at_most-self KeyShare = refl
 at_most-self Share = refl
 at_most-self NoKeyUpdate = refl
 at_most-self Update = refl
 
-at_most-stronger : (a b : LockMode) → is_at_most a (stronger a b) ≡ true
+pub at_most-stronger : (a b : LockMode) → is_at_most a (stronger a b) ≡ true
 at_most-stronger KeyShare KeyShare = refl
 at_most-stronger KeyShare Share = refl
 at_most-stronger KeyShare NoKeyUpdate = refl
@@ -50,7 +50,7 @@ at_most-stronger Update Share = refl
 at_most-stronger Update NoKeyUpdate = refl
 at_most-stronger Update Update = refl
 
-at_most-trans : (a b c : LockMode) → is_at_most a b ≡ true → is_at_most b c ≡ true → is_at_most a c ≡ true
+pub at_most-trans : (a b c : LockMode) → is_at_most a b ≡ true → is_at_most b c ≡ true → is_at_most a c ≡ true
 at_most-trans a b c e h = grind (arith, nat_tests, e, h)
 
 -- the row is held in the mode or a stronger one
@@ -62,16 +62,16 @@ pub record Holds (row : ℕ) (mode : LockMode) (holdings : Holdings) : Type 0 wh
 abbrev pub Fits : Holdings → Holdings → Type 0
 Fits few many = (row : ℕ) (mode : LockMode) → at row few ≡ Some mode → Holds row mode many
 
-Fits-self : (holdings : Holdings) → Fits holdings holdings
+pub Fits-self : (holdings : Holdings) → Fits holdings holdings
 Fits-self holdings row mode stands = record { held = mode; stands = stands; enough = at_most-self mode }
 
-Fits-trans : (one two three : Holdings) → Fits one two → Fits two three → Fits one three
+pub Fits-trans : (one two three : Holdings) → Fits one two → Fits two three → Fits one three
 Fits-trans one two three fits fits' row mode stands =
     let first : Holds row mode two = fits row mode stands in
     let second : Holds row first.held three = fits' row first.held first.stands in
     record { held = second.held; stands = second.stands; enough = at_most-trans mode first.held second.held first.enough second.enough }
 
-Fits-locked : (row : ℕ) (mode : LockMode) (holdings : Holdings) → Fits holdings (locked row mode holdings)
+pub Fits-locked : (row : ℕ) (mode : LockMode) (holdings : Holdings) → Fits holdings (locked row mode holdings)
 Fits-locked row mode holdings other held stands =
     ⊎_elim
     (λ (same : other ≡ row). record {
@@ -160,7 +160,7 @@ effects-fit program s (e ∷ es) scene fits = effects-fit program s es (effect p
 
 -- ---- every state of every run
 
-each-set : (P : Session → Type 0) (all : List Session) (s : ℕ) (me nothing : Session) → ((j : ℕ) → P (slice_index_or all j nothing)) → P me → (j : ℕ) → P (slice_index_or (slice_set all s me) j nothing)
+pub each-set : (P : Session → Type 0) (all : List Session) (s : ℕ) (me nothing : Session) → ((j : ℕ) → P (slice_index_or all j nothing)) → P me → (j : ℕ) → P (slice_index_or (slice_set all s me) j nothing)
 each-set P [] s me nothing each is j = each j
 each-set P (one ∷ all) zero me nothing each is zero = is
 each-set P (one ∷ all) zero me nothing each is (suc j) = each (suc j)

@@ -189,7 +189,7 @@ effects-apart theirs program s (e ∷ es) scene free fits apart =
 
 -- ---- what is in nobody's way is free against each other session
 
-row-free : (st : State) (s j row : ℕ) (mode : LockMode) → j ≢ s → row_blockers s (map held_by st.sessions) row mode ≡ [] → conflicts_with mode (at row (held_by (session_at st j))) ≡ false
+pub row-free : (st : State) (s j row : ℕ) (mode : LockMode) → j ≢ s → row_blockers s (map held_by st.sessions) row mode ≡ [] → conflicts_with mode (at row (held_by (session_at st j))) ≡ false
 row-free st s j row mode other none = none_passes (λ held. conflicts_with mode (at row held)) refl st.sessions 0 s none j (λ same. other (omega (arith, same)))
 
 lock-free : (program : Program) (st : State) (s j : ℕ) (mine : Writes) (change : Change) (row : Option ℕ) (old new : Option Row) (lock : Option LockMode) → j ≢ s →
@@ -222,7 +222,7 @@ step-free program st s j other (Without_a_change each) = each-free program st s 
 -- ---- every state of every run
 
 -- a session after the step is the one that stepped, or as it was
-set-cases : (all : List Session) (s : ℕ) (me nothing : Session) (j : ℕ) →
+pub set-cases : (all : List Session) (s : ℕ) (me nothing : Session) (j : ℕ) →
     ((j ≡ s) × (slice_index_or (slice_set all s me) j nothing ≡ me)) ⊎ (slice_index_or (slice_set all s me) j nothing ≡ slice_index_or all j nothing)
 set-cases [] s me nothing j = inr refl
 set-cases (one ∷ all) zero me nothing zero = inl (refl, refl)

@@ -9,6 +9,7 @@ pub mod Free_starts
 pub mod Free_steps
 pub mod Copies_fit
 pub mod Holdings_apart
+pub mod Written
 pub mod Worked
 pub mod Told_apart
 mod Schedules
