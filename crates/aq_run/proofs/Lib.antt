@@ -10,6 +10,7 @@ pub mod Free_steps
 pub mod Copies_fit
 pub mod Holdings_apart
 pub mod Written
+pub mod Written_apart
 pub mod Worked
 pub mod Told_apart
 mod Schedules
