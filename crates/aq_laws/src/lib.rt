@@ -2,8 +2,19 @@
 #![tactic(auto)]
 
 ghost use Rattle.aq_laws.specs.Locks.{HoldingsAreApart};
+ghost use Rattle.aq_laws.specs.Writes.{WritesAreApart, WrittenRowsAreHeld};
 
 /// At each moment of each run, no two sessions hold a row in modes that conflict.
 pub fn holdings_are_apart()
     ensures { HoldingsAreApart }
+{}
+
+/// At each moment of each run, no two sessions have written one row.
+pub fn writes_are_apart()
+    ensures { WritesAreApart }
+{}
+
+/// At each moment of each run, each session holds what it has written of the last database in the mode of a writer.
+pub fn written_rows_are_held()
+    ensures { WrittenRowsAreHeld }
 {}
