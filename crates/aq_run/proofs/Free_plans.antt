@@ -33,17 +33,18 @@ use Rattle.aq_run.specs.States.Block_state.{Idle, Open, Failed}
 use Rattle.aq_run.specs.States.Task.{Changing, Rounds}
 use Rattle.aq_run.specs.States.Target.{New_row, Old_row}
 use Rattle.aq_run.specs.Effects.{Effect}
-use Rattle.aq_run.specs.Effects.Effect.{Locks, Changes, Turns, Queues}
+use Rattle.aq_run.specs.Effects.Effect.{Locks, Changes, Turns, Queues, Starts_waiting}
 use Rattle.aq_run.specs.Plans.{Plan}
 use Rattle.aq_run.specs.Plans.Plan.{Does_all, Would_wait, Fails}
 use Rattle.aq_run.specs.Rows.{has_room, with_room, on_triggers, changing, within_changes, wrote_old, on_outcome, target_outcome, end_plan, changing_plan, on_locked, locking_plan, locked_plan, wish_of, test_of, select_test, op_of}
 use Rattle.aq_run.proofs.Free_rows.{Change_fits, Is_free, putting-free, row_step-free}
 use Rattle.aq_base.specs.Writes.{Writes}
 
--- what an effect of a session rests on, other than the change of a row
+-- what an effect of a session rests on, other than the change of a row and a wait
 abbrev pub Is_allowed : Catalog → Around → ℕ → Effect → Type 0
 Is_allowed cat others s (Locks row mode) = ask_blockers cat others s (For_row row mode) ≡ []
 Is_allowed cat others s (Changes change lock triggers) = ⊥
+Is_allowed cat others s (Starts_waiting ask blockers) = ⊥
 Is_allowed cat others s _ = Unit {0}
 
 abbrev pub Each : (Effect → Type 0) → List Effect → Type 0

@@ -37,7 +37,7 @@ use Rattle.aq_run.specs.States.Block_state.{Idle, Open, Failed}
 use Rattle.aq_run.specs.Faults.{Fault, Finding, plain}
 use Rattle.aq_run.specs.Waits.{blockers, closes}
 use Rattle.aq_run.specs.Effects.{Effect, effects}
-use Rattle.aq_run.specs.Effects.Effect.{Resumes, Changes, Opens, Replies, Sets_mode, Saves, Turns, Finishes, Becomes, Refuses}
+use Rattle.aq_run.specs.Effects.Effect.{Resumes, Starts_waiting, Changes, Opens, Replies, Sets_mode, Saves, Turns, Finishes, Becomes, Refuses}
 use Rattle.aq_run.specs.Replies.{tag, error_lines}
 use Rattle.aq_run.specs.Plans.{Plan}
 use Rattle.aq_run.specs.Plans.Plan.{Does_all, Would_wait, Fails}
@@ -232,9 +232,8 @@ module _ (program : Program) (st : State) (s : ℕ) where
       Each-append (Is_allowed program.schema.catalog (around st) s) before (error_effects program.schema (effects program s before (scene_of st s)).me fault) fine
       (error-fine program.schema (around st) s mine (effects program s before (scene_of st s)).me fault)
 
-  waiting-fine : (ask : Ask) (cycle : Option (List ℕ)) → Fine program.schema.catalog (around st) s mine (waiting program st s ask cycle)
-  waiting-fine ask None = (tt, tt)
-  waiting-fine ask (Some cycle) = failing-fine (Resumes ∷ (counting (session_at st s) ++ Refuses cycle ∷ [])) (plain deadlock) (counted-fine (Refuses cycle ∷ []) (tt, tt))
+  refused-fine : (cycle : List ℕ) → Fine program.schema.catalog (around st) s mine (failing program st s (Resumes ∷ (counting (session_at st s) ++ Refuses cycle ∷ [])) (plain deadlock))
+  refused-fine cycle = failing-fine (Resumes ∷ (counting (session_at st s) ++ Refuses cycle ∷ [])) (plain deadlock) (counted-fine (Refuses cycle ∷ []) (tt, tt))
 
   -- the step changes a row, and does nothing else
   pub record Changes_alone (change : Change) (lock : Option LockMode) (triggers : List ℕ) (task : Task) : Type 0 where
@@ -243,18 +242,29 @@ module _ (program : Program) (st : State) (s : ℕ) where
 
   pub data Kind_of_step : Type 0 where
     Changing_a_row : (change : Change) (lock : Option LockMode) (triggers : List ℕ) (task : Task) → Changes_alone change lock triggers task → Kind_of_step
-    Without_a_change : Each (Is_allowed program.schema.catalog (around st) s) (effects_of program st s) → Kind_of_step
+    Without_a_change : (rest : List Effect) → effects_of program st s ≡ Resumes ∷ rest → Each (Is_allowed program.schema.catalog (around st) s) rest → Kind_of_step
+    -- it waits, and nothing else: no cycle arises
+    Waiting : (ask : Ask) → effects_of program st s ≡ Starts_waiting ask (blockers program st s ask) ∷ [] → closes program st s (blockers program st s ask) ≡ None → Kind_of_step
+
+  -- effects that begin with the end of a wait
+  resumed-kind : (rest : List Effect) → effects_of program st s ≡ Resumes ∷ rest → Fine program.schema.catalog (around st) s mine (Resumes ∷ rest) → Kind_of_step
+  resumed-kind rest are fine = Without_a_change rest are fine.1
 
   done-kind : (all : List Effect) → Is_done program.schema.catalog (around st) s mine all → effects_of program st s ≡ Resumes ∷ (counting (session_at st s) ++ all) → Kind_of_step
   done-kind (Changes change lock triggers ∷ Turns task ∷ []) fits are = Changing_a_row change lock triggers task (record { are = are; fits = fits })
-  done-kind all each are = Without_a_change (subst (Each (Is_allowed program.schema.catalog (around st) s)) (sym are) (counted-fine all each))
+  done-kind all each are = resumed-kind (counting (session_at st s) ++ all) are (counted-fine all each)
+
+  waiting-kind : (ask : Ask) (cycle : Option (List ℕ)) → closes program st s (blockers program st s ask) ≡ cycle → effects_of program st s ≡ waiting program st s ask cycle → Kind_of_step
+  waiting-kind ask None none are = Waiting ask are none
+  waiting-kind ask (Some cycle) closed are =
+      resumed-kind ((counting (session_at st s) ++ Refuses cycle ∷ []) ++ error_effects program.schema (effects program s (Resumes ∷ (counting (session_at st s) ++ Refuses cycle ∷ [])) (scene_of st s)).me (plain deadlock)) are (refused-fine cycle)
 
   plan-kind : (plan : Plan) → Is_fine mine plan → effects_of program st s ≡ effects_of_plan program st s plan → Kind_of_step
   plan-kind (Does_all all) done are = done-kind all done are
   plan-kind (Fails before fault) fine are =
-      Without_a_change (subst (Each (Is_allowed program.schema.catalog (around st) s)) (sym are) (failing-fine (Resumes ∷ (counting (session_at st s) ++ before)) fault (counted-fine before fine)))
-  plan-kind (Would_wait ask) fine are =
-      Without_a_change (subst (Each (Is_allowed program.schema.catalog (around st) s)) (sym are) (waiting-fine ask (closes program st s (blockers program st s ask))))
+      resumed-kind ((counting (session_at st s) ++ before) ++ error_effects program.schema (effects program s (Resumes ∷ (counting (session_at st s) ++ before)) (scene_of st s)).me fault) are
+      (failing-fine (Resumes ∷ (counting (session_at st s) ++ before)) fault (counted-fine before fine))
+  plan-kind (Would_wait ask) fine are = waiting-kind ask (closes program st s (blockers program st s ask)) refl are
 
   -- whatever the state and the session
   pub kind_of_step : Kind_of_step

@@ -19,14 +19,14 @@ use Rattle.aq_run.specs.Steps.{step, effects_of, scene_of, count_effects, is_cou
 use Rattle.aq_run.specs.Runs.{Schedule, run_from, run}
 use Rattle.aq_base.specs.Names.{Text}
 use Rattle.aq_run.specs.Effects.{Effect, Scene, effect, effects, on_session, with_lock, with_lock_in, with_set, opening_of, latest_saved, copied_work, standing_saved, returned, saving, changed, queued, row_of, taking_round}
-use Rattle.aq_run.specs.Effects.Effect.{Counts_step, Turns, Begins, Fixes_snapshot, Opens, Closes_level, Closes_rounds, Takes_round, Locks, Changes, Queues, Closes_set, Finishes, Sets_mode, Saves, Releases, Returns, Commits, Aborts}
+use Rattle.aq_run.specs.Effects.Effect.{Counts_step, Turns, Starts_waiting, Begins, Fixes_snapshot, Opens, Closes_level, Closes_rounds, Takes_round, Locks, Changes, Queues, Closes_set, Finishes, Sets_mode, Saves, Releases, Returns, Commits, Aborts}
 use Rattle.aq_outcomes.specs.Rows.{Change}
 use Rattle.aq_base.specs.Values.{Row}
 use Rattle.aq_base.specs.Writes.{Writes}
 use Rattle.aq_run.proofs.Free_rows.{Fits_parts, Changes_row}
 use Rattle.aq_run.proofs.Free_plans.{Is_allowed, Each}
 use Rattle.aq_run.proofs.Free_steps.{writes_in, Kind_of_step, kind_of_step}
-use Rattle.aq_run.proofs.Free_steps.Kind_of_step.{Changing_a_row, Without_a_change}
+use Rattle.aq_run.proofs.Free_steps.Kind_of_step.{Changing_a_row, Without_a_change, Waiting}
 use Rattle.aq_base.specs.declared.data.LockMode.TheVariants.{Update, NoKeyUpdate, Share, KeyShare}
 use Rattle.aq_base.proofs.Maps.{at-with_at_same, at-with_at_other}
 use Rattle.aq_run.proofs.Copies_fit.{is_at_most, Fits, Holds, Session_fits, Copies_fit, Copies_fit-drop, on_session-fits, All_fit, step-fits, opening-fit}
@@ -202,6 +202,7 @@ lock-free program st s j mine change row old new lock other fits = absurd fits
 effect-free : (program : Program) (st : State) (s j : ℕ) (e : Effect) → j ≢ s → Is_allowed program.schema.catalog (around st) s e → Is_free_against (held_by (session_at st j)) e
 effect-free program st s j (Locks row mode) other free = row-free st s j row mode other free
 effect-free program st s j (Changes change lock triggers) other none = absurd none
+effect-free program st s j (Starts_waiting ask blockers) other none = absurd none
 effect-free program st s j _ other free = tt
 
 each-free : (program : Program) (st : State) (s j : ℕ) (es : List Effect) → j ≢ s → Each (Is_allowed program.schema.catalog (around st) s) es → Each (Is_free_against (held_by (session_at st j))) es
@@ -217,7 +218,8 @@ step-free program st s j other (Changing_a_row change lock triggers task changes
     subst (Each (Is_free_against (held_by (session_at st j)))) (sym changes.are)
     (tt, counted-free (held_by (session_at st j)) (is_counted_with (session_at st s).transaction (session_at st s).tasks) (Changes change lock triggers ∷ Turns task ∷ [])
     (lock-free program st s j (writes_in (session_at st s).transaction) change change.row change.old change.new lock other changes.fits, (tt, tt)))
-step-free program st s j other (Without_a_change each) = each-free program st s j (effects_of program st s) other each
+step-free program st s j other (Without_a_change rest are each) = subst (Each (Is_free_against (held_by (session_at st j)))) (sym are) (tt, each-free program st s j rest other each)
+step-free program st s j other (Waiting ask are none) = subst (Each (Is_free_against (held_by (session_at st j)))) (sym are) (tt, tt)
 
 -- ---- every state of every run
 

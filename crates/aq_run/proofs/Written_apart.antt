@@ -18,7 +18,7 @@ use Rattle.aq_outcomes.specs.Rows.{Change, mode_for, changed_keys}
 use Rattle.aq_run.specs.Programs.{Program}
 use Rattle.aq_run.specs.States.{Task, Transaction, Session, World, State, at_start, nobody, opening, session_at, around, held_by}
 use Rattle.aq_run.specs.Effects.{Effect, Scene, effect, effects, on_session, row_of, rows_drawn, committed}
-use Rattle.aq_run.specs.Effects.Effect.{Resumes, Counts_step, Locks, Changes, Turns, Commits}
+use Rattle.aq_run.specs.Effects.Effect.{Resumes, Starts_waiting, Counts_step, Locks, Changes, Turns, Commits}
 use Rattle.aq_run.specs.Steps.{step, effects_of, scene_of, counting, count_effects, is_counted_with}
 use Rattle.aq_run.specs.Runs.{Schedule, run_from, run}
 use Rattle.aq_setup.specs.Catalogs.{Catalog}
@@ -31,7 +31,7 @@ use Rattle.aq_run.proofs.Written.{writer_mode, Rows_written-locked, Written, Rew
 use Rattle.aq_run.proofs.Free_rows.{Fits_parts, Change_fits, Changes_row, New_fits}
 use Rattle.aq_run.proofs.Free_plans.{Is_allowed, Each}
 use Rattle.aq_run.proofs.Free_steps.{writes_in, Kind_of_step, kind_of_step}
-use Rattle.aq_run.proofs.Free_steps.Kind_of_step.{Changing_a_row, Without_a_change}
+use Rattle.aq_run.proofs.Free_steps.Kind_of_step.{Changing_a_row, Without_a_change, Waiting}
 use Rattle.aq_run.proofs.Holdings_apart.{set-cases, row-free}
 
 -- ---- the last database
@@ -322,6 +322,7 @@ module _ (program : Program) (st : State) (s : ℕ) where
     where
       one_rests : (theirs : Option Transaction) (world : World) (e : Effect) → Is_allowed program.schema.catalog (around st) s e → Rests_on theirs world e
       one_rests theirs world (Changes change lock triggers) none = absurd none
+      one_rests theirs world (Starts_waiting ask blockers) none = absurd none
       one_rests theirs world e allowed = tt
 
   rest-counted : (theirs : Option Transaction) (counted : Bool) (change : Change) (lock : Option LockMode) (triggers : List ℕ) (task : Task) → Change_against rows (writes_in theirs) change.row change.new lock →
@@ -337,7 +338,9 @@ module _ (program : Program) (st : State) (s : ℕ) where
   step-rests theirs against (Changing_a_row change lock triggers task changes) =
       subst (λ es. Rest_on theirs es (scene_of st s) program s) (sym changes.are)
       (rest-counted theirs (is_counted_with (session_at st s).transaction (session_at st s).tasks) change lock triggers task (against change change.row change.old change.new lock changes.fits))
-  step-rests theirs against (Without_a_change each) = rest-allowed theirs (effects_of program st s) (scene_of st s) each
+  step-rests theirs against (Without_a_change rest are each) =
+      subst (λ es. Rest_on theirs es (scene_of st s) program s) (sym are) (tt, rest-allowed theirs rest (effect program s Resumes (scene_of st s)) each)
+  step-rests theirs against (Waiting ask are none) = subst (λ es. Rest_on theirs es (scene_of st s) program s) (sym are) (tt, tt)
 
 -- ---- every state of every run
 
