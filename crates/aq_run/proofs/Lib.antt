@@ -11,6 +11,7 @@ pub mod Copies_fit
 pub mod Holdings_apart
 pub mod Written
 pub mod Written_apart
+pub mod Ranks
 pub mod Worked
 pub mod Told_apart
 mod Schedules
