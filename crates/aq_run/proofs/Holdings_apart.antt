@@ -215,9 +215,11 @@ counted-free theirs false es each = each
 
 step-free : (program : Program) (st : State) (s j : ℕ) → j ≢ s → Kind_of_step program st s → Each (Is_free_against (held_by (session_at st j))) (effects_of program st s)
 step-free program st s j other (Changing_a_row change lock triggers task changes) =
-    subst (Each (Is_free_against (held_by (session_at st j)))) (sym changes.are)
-    (tt, counted-free (held_by (session_at st j)) (is_counted_with (session_at st s).transaction (session_at st s).tasks) (Changes change lock triggers ∷ Turns task ∷ [])
-    (lock-free program st s j (writes_in (session_at st s).transaction) change change.row change.old change.new lock other changes.fits, (tt, tt)))
+    subst (Each (Is_free_against (held_by (session_at st j)))) (sym changes.are) (
+      tt,
+      counted-free (held_by (session_at st j)) (is_counted_with (session_at st s).transaction (session_at st s).tasks) (Changes change lock triggers ∷ Turns task ∷ [])
+          (lock-free program st s j (writes_in (session_at st s).transaction) change change.row change.old change.new lock other changes.fits, (tt, tt)),
+    )
 step-free program st s j other (Without_a_change rest are each) = subst (Each (Is_free_against (held_by (session_at st j)))) (sym are) (tt, each-free program st s j rest other each)
 step-free program st s j other (Waiting ask are none) = subst (Each (Is_free_against (held_by (session_at st j)))) (sym are) (tt, tt)
 

@@ -1,11 +1,11 @@
 -- Graphs along whose edges a rank falls: they have no cycle, and stay so when edges are added that close none.
 use Rattle.std.proofs.Common.{◌≡◌, ◌≢◌, ℕ, ◌≤◌, ◌<◌, Bool, true, false, arith, List, [], ◌∷◌, Option, Some, None, refl, sym, ap, ◌∙◌, subst, ⊎_elim, ◌⊎◌, inl, inr, eqb-true}
-use Rattle.std.specs.Prelude.{◌+◌, ◌==◌, ◌||◌, zero, suc, length, filter, find, map, is_some, nat_lt, if◌then◌else◌}
+use Rattle.std.specs.Prelude.{◌+◌, ◌-◌, ◌==◌, ◌||◌, zero, suc, length, filter, find, map, is_some, nat_lt, if◌then◌else◌}
 use Rattle.std.specs.List.{list_any, enumerate_from}
 use Rattle.std.proofs.lemmas.Bool.{true≢false, cases_eq, eq-eqb, or_cases}
 use Rattle.std.proofs.lemmas.Bool.Decides.{nat_tests}
 use Rattle.std.proofs.lemmas.Option.{none-some}
-use Rattle.aq_run.specs.Waits.{is_in, reaching, first_among, is_way, shortest, cycle_by, cycle_through}
+use Rattle.aq_run.specs.Waits.{is_in, reaching, first_among, is_way, way, shortest, cycle_by, cycle_through}
 
 abbrev pub IsIn : List ℕ → ℕ → Type 0
 IsIn ns n = is_in ns n ≡ true
@@ -52,6 +52,14 @@ filter-back p m n ns false e rest is = rest is
 pub filter-holds : (p : ℕ → Bool) (ns : List ℕ) (n : ℕ) → IsIn (filter p ns) n → p n ≡ true
 filter-holds p [] n is = absurd (in-none n is)
 filter-holds p (m ∷ ns) n is = filter-back p m n ns (p m) refl (λ later. filter-holds p ns n later) is
+
+filter-back_inside : (p : ℕ → Bool) (m n : ℕ) (ns : List ℕ) (b : Bool) → (IsIn (filter p ns) n → IsIn ns n) → IsIn (if b then m ∷ filter p ns else filter p ns) n → IsIn (m ∷ ns) n
+filter-back_inside p m n ns true rest is = ⊎_elim (λ same. or_left (m == n) (is_in ns n) (eq-eqb m n same)) (λ later. in-later m n ns (rest later)) (in-cases m n (filter p ns) is)
+filter-back_inside p m n ns false rest is = in-later m n ns (rest is)
+
+pub filter-inside : (p : ℕ → Bool) (ns : List ℕ) (n : ℕ) → IsIn (filter p ns) n → IsIn ns n
+filter-inside p [] n is = is
+filter-inside p (m ∷ ns) n is = filter-back_inside p m n ns (p m) (λ later. filter-inside p ns n later) is
 
 any-some : (p q : ℕ → Bool) (ns : List ℕ) → ((n : ℕ) → p n ≡ true → q n ≡ true) → list_any p ns ≡ true → list_any q ns ≡ true
 any-some p q [] more any = any
@@ -103,3 +111,110 @@ count-lt p q (n ∷ ns) k more is e f =
 count-all : (ns : List ℕ) → count (λ _. true) ns ≡ length ns
 count-all [] = refl
 count-all (n ∷ ns) = let rest = count-all ns in omega (arith, rest)
+
+-- ---- ranks
+
+-- the rank falls along each edge
+abbrev pub Falls : (ℕ → List ℕ) → (ℕ → ℕ) → Type 0
+Falls next rank = (i k : ℕ) → IsIn (next i) k → rank k < rank i
+
+less-trans : (a b c : ℕ) → nat_lt a b ≡ true → b < c → nat_lt a c ≡ true
+less-trans a b c e f = grind (arith, nat_tests, e, f)
+
+less-is : (a b : ℕ) → a < b → nat_lt a b ≡ true
+less-is a b e = grind (arith, nat_tests, e)
+
+less-self : (a : ℕ) → nat_lt a a ≡ false
+less-self a = grind (arith, nat_tests)
+
+-- how many of the nodes have a smaller rank
+abbrev pub place_of_rank : (ℕ → ℕ) → List ℕ → ℕ → ℕ
+place_of_rank rank all i = count (λ j. nat_lt (rank j) (rank i)) all
+
+pub place-falls : (next : ℕ → List ℕ) (rank : ℕ → ℕ) (all : List ℕ) → ((i k : ℕ) → IsIn (next i) k → IsIn all k) → Falls next rank → Falls next (place_of_rank rank all)
+place-falls next rank all inside falls i k edge =
+    let less : rank k < rank i = falls i k edge in
+    count-lt (λ j. nat_lt (rank j) (rank k)) (λ j. nat_lt (rank j) (rank i)) all k (λ j e. less-trans (rank j) (rank k) (rank i) e less) (inside i k edge) (less-self (rank k)) (less-is (rank k) (rank i) less)
+
+pub place-low : (rank : ℕ → ℕ) (all : List ℕ) (k : ℕ) → IsIn all k → place_of_rank rank all k < length all
+place-low rank all k is =
+    subst (λ n. place_of_rank rank all k < n) (count-all all) (count-lt (λ j. nat_lt (rank j) (rank k)) (λ _. true) all k (λ j e. refl) is (less-self (rank k)) refl)
+
+lift-less : (a b : Bool) (m n more : ℕ) → (a ≡ true → b ≡ true) → m < n → (if a then m + more else m) < (if b then n + more else n)
+lift-less true true m n more leads less = omega arith
+lift-less true false m n more leads less = absurd (true≢false (sym (leads refl)))
+lift-less false true m n more leads less = omega arith
+lift-less false false m n more leads less = less
+
+lift-new : (a b : Bool) (m n more : ℕ) → a ≡ false → b ≡ true → m < more → (if a then m + more else m) < (if b then n + more else n)
+lift-new true b m n more e f less = absurd (true≢false e)
+lift-new false true m n more e f less = omega arith
+lift-new false false m n more e f less = absurd (true≢false (sym f))
+
+-- ---- the nodes that lead to a goal
+
+module _ (next : ℕ → List ℕ) (all : List ℕ) (goal : ℕ) (rank : ℕ → ℕ) (goal_in : IsIn all goal) where
+  abbrev from_fewer : ℕ → ℕ → Bool
+  from_fewer n k = (k == goal) || list_any (is_in (reaching next all goal n)) (next k)
+
+  reach-inside : (n k : ℕ) → IsIn (reaching next all goal n) k → IsIn all k
+  reach-inside zero k is = ⊎_elim (λ (same : goal ≡ k). subst (IsIn all) same goal_in) (λ later. absurd (in-none k later)) (in-cases goal k [] is)
+  reach-inside (suc n) k is = filter-inside (from_fewer n) all k is
+
+  -- whoever gets there by so many waits gets there by one more
+  reach-more : (n k : ℕ) → IsIn (reaching next all goal n) k → IsIn (reaching next all goal (suc n)) k
+  reach-more zero k is =
+      ⊎_elim (λ (same : goal ≡ k). in-filter (from_fewer zero) all k (subst (IsIn all) same goal_in) (or_left (k == goal) (list_any (is_in (reaching next all goal zero)) (next k)) (eq-eqb k goal (sym same))))
+      (λ later. absurd (in-none k later)) (in-cases goal k [] is)
+  reach-more (suc n) k is =
+      in-filter (from_fewer (suc n)) all k (filter-inside (from_fewer n) all k is)
+      (⊎_elim (λ here. or_left (k == goal) (list_any (is_in (reaching next all goal (suc n))) (next k)) here)
+      (λ there. or_right (k == goal) (list_any (is_in (reaching next all goal (suc n))) (next k))
+      (any-some (is_in (reaching next all goal n)) (is_in (reaching next all goal (suc n))) (next k) (λ j e. reach-more n j e) there))
+      (or_cases (k == goal) (list_any (is_in (reaching next all goal n)) (next k)) (filter-holds (from_fewer n) all k is)))
+
+  reach-by : (more n k : ℕ) → IsIn (reaching next all goal n) k → IsIn (reaching next all goal (more + n)) k
+  reach-by zero n k is = let e : n ≡ 0 + n = omega arith in subst (λ m. IsIn (reaching next all goal m) k) e is
+  reach-by (suc more) n k is = let e : suc (more + n) ≡ suc more + n = omega arith in subst (λ m. IsIn (reaching next all goal m) k) e (reach-more (more + n) k (reach-by more n k is))
+
+  -- by as many waits as its rank
+  abbrev leads : ℕ → Bool
+  leads i = is_in (reaching next all goal (rank i)) i
+
+  leads-on : (i k : ℕ) → IsIn all i → IsIn (next i) k → rank k < rank i → leads k ≡ true → leads i ≡ true
+  leads-on i k inside edge less is = by_difference (rank i) refl
+    where
+      one_wait : IsIn (reaching next all goal (suc (rank k))) i
+      one_wait = in-filter (from_fewer (rank k)) all i inside (or_right (i == goal) (list_any (is_in (reaching next all goal (rank k))) (next i)) (any-in (is_in (reaching next all goal (rank k))) (next i) k edge is))
+
+      by_difference : (n : ℕ) → rank i ≡ n → IsIn (reaching next all goal (rank i)) i
+      by_difference n e =
+          let e : (rank i - suc (rank k)) + suc (rank k) ≡ rank i = omega (arith, less) in
+          subst (λ m. IsIn (reaching next all goal m) i) e (reach-by (rank i - suc (rank k)) (suc (rank k)) i one_wait)
+
+  goal-leads : leads goal ≡ true
+  goal-leads = let e : rank goal + 0 ≡ rank goal = omega arith in subst (λ m. IsIn (reaching next all goal m) goal) e (reach-by (rank goal) zero goal (in-first goal []))
+
+  -- ---- new edges out of the goal, to nodes that don't lead to it
+
+  abbrev lifted : ℕ → ℕ
+  lifted i = if leads i then rank i + length all else rank i
+
+  pub lifted-old : (i k : ℕ) → IsIn all i → IsIn (next i) k → rank k < rank i → lifted k < lifted i
+  lifted-old i k inside edge less = lift-less (leads k) (leads i) (rank k) (rank i) (length all) (λ is. leads-on i k inside edge less is) less
+
+  pub lifted-new : (k : ℕ) → leads k ≡ false → rank k < length all → lifted k < lifted goal
+  lifted-new k apart low = lift-new (leads k) (leads goal) (rank k) (rank goal) (length all) apart goal-leads low
+
+-- where no cycle is found, none of these leads to the goal
+pub none-leads : (next : ℕ → List ℕ) (all : List ℕ) (goal : ℕ) (rank : ℕ → ℕ) (from : List ℕ) → cycle_through next all goal from ≡ None → (k : ℕ) → IsIn from k → IsIn all (rank k) → is_in (reaching next all goal (rank k)) k ≡ false
+none-leads next all goal rank from none k among inside =
+    find-none (is_in (reaching next all goal (rank k))) from k (not-some (first_among from (reaching next all goal (rank k))) (find-none (is_way next all goal from) all (rank k) (no-cycle (shortest next all goal from) none) inside)) among
+  where
+    not-some : (found : Option ℕ) → is_some found ≡ false → found ≡ None
+    not-some None e = refl
+    not-some (Some n) e = absurd (true≢false e)
+
+    no-cycle : (found : Option ℕ) → cycle_by next all goal from found ≡ None → found ≡ None
+    no-cycle None e = refl
+    no-cycle (Some n) e = absurd (none-some (goal ∷ way next all goal n from) (sym e))

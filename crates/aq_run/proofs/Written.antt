@@ -181,19 +181,22 @@ module _ (rows more numbers : ℕ) (db : Database) (grow : rows ≤ more) where
       ((stored : Stored) → at row db ≡ Some stored → Holds row (writer_mode image) (locked_in row lock holdings)) → Rows_written rows numbers db writes holdings saved →
       Rows_written more (numbers + 1) db (with_at row (record { table = table; image = image; number = numbers + 1 }) writes) (locked_in row lock holdings) saved
   Rows_written-put row table image lock writes holdings saved within held is =
-      let version : Write = record { table = table; image = image; number = numbers + 1 } in
-      (Written-put row table image lock writes holdings within held is.0,
-      Copies_written-more more (numbers + 1) db writes (with_at row version writes) saved (Within-put rows numbers db row version writes holdings refl is.0) (Copies_written-grow writes saved is.1))
+      let version : Write = record { table = table; image = image; number = numbers + 1 } in (
+        Written-put row table image lock writes holdings within held is.0,
+        Copies_written-more more (numbers + 1) db writes (with_at row version writes) saved (Within-put rows numbers db row version writes holdings refl is.0) (Copies_written-grow writes saved is.1),
+      )
 
 -- ---- a lock
 
 pub Rows_written-locked : (rows numbers : ℕ) (db : Database) (row : ℕ) (mode : LockMode) (writes : Writes) (holdings : Holdings) (saved : List Saved) → Rows_written rows numbers db writes holdings saved →
     Rows_written rows numbers db writes (locked row mode holdings) saved
 Rows_written-locked rows numbers db row mode writes holdings saved is =
-    let written : Written rows numbers db writes holdings = is.0 in
-    (record {
+    let written : Written rows numbers db writes holdings = is.0 in (
+      record {
         rise = written.rise;
         drawn = written.drawn;
         numbered = written.numbered;
         guarded = λ q one stored mine there. Holds-fits q (writer_mode one.image) holdings (locked row mode holdings) (Fits-locked row mode holdings) (written.guarded q one stored mine there);
-      }, is.1)
+      },
+      is.1,
+    )

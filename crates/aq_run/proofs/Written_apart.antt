@@ -67,9 +67,11 @@ Joint-copies rows numbers db theirs =
       starts = (alone.starts, λ row one other is. absurd (none-some one is));
       drops = λ n writes holdings saved is. (alone.drops n writes holdings saved is.0, is.1);
       saves = λ one saved is. (alone.saves one saved is.0, is.1);
-      returns = λ writes holdings one saved is.
-          (alone.returns writes holdings one saved is.0, λ row write other mine there.
-              let again : Rewritten row write writes = is.0.1.1.0 row write mine in is.1 row again.later other again.stands there);
+      returns = λ writes holdings one saved is. (
+        alone.returns writes holdings one saved is.0,
+        λ row write other mine there.
+            let again : Rewritten row write writes = is.0.1.1.0 row write mine in is.1 row again.later other again.stands there,
+      );
     }
 
 -- ---- what a change rests on, against another transaction
@@ -86,19 +88,21 @@ Joint-put : (rows numbers : ℕ) (db : Database) (theirs : Writes) (table : ℕ)
     Database_stands rows db → ((q : ℕ) (other : Write) → at q theirs ≡ Some other → q ≤ rows) → Change_against rows theirs row new lock →
     (writes : Writes) (holdings : Holdings) (saved : List Saved) → Joint rows numbers db theirs writes holdings saved →
     Joint (Drawn_after rows row) (numbers + 1) db theirs (with_at (unwrap_or row (rows + 1)) (record { table = table; image = new; number = numbers + 1 }) writes) (locked_in (unwrap_or row (rows + 1)) lock holdings) saved
-Joint-put rows numbers db theirs table None new lock stands low against writes holdings saved is =
-    (Rows_written-put rows (rows + 1) numbers db (omega arith) (rows + 1) table new lock writes holdings saved (omega arith)
-        (λ stored there. let high = stands.drawn (rows + 1) stored there in absurd (omega arith)) is.0,
-    λ q one other mine there.
-        ⊎_elim (λ here. let least = low q other there in let e = here.0 in absurd (omega (arith, e))) (λ elsewhere. is.1 q one other elsewhere.1 there)
-        (put-cases q (rows + 1) (record { table = table; image = new; number = numbers + 1 }) one writes mine))
+Joint-put rows numbers db theirs table None new lock stands low against writes holdings saved is = (
+  Rows_written-put rows (rows + 1) numbers db (omega arith) (rows + 1) table new lock writes holdings saved (omega arith)
+      (λ stored there. let high = stands.drawn (rows + 1) stored there in absurd (omega arith)) is.0,
+  λ q one other mine there.
+      ⊎_elim (λ here. let least = low q other there in let e = here.0 in absurd (omega (arith, e))) (λ elsewhere. is.1 q one other elsewhere.1 there)
+      (put-cases q (rows + 1) (record { table = table; image = new; number = numbers + 1 }) one writes mine),
+)
 Joint-put rows numbers db theirs table (Some row) new None stands low against writes holdings saved is = absurd against
-Joint-put rows numbers db theirs table (Some row) new (Some mode) stands low against writes holdings saved is =
-    (Rows_written-put rows rows numbers db (omega arith) row table new (Some mode) writes holdings saved against.0
-        (λ stored there. Holds-locked row (writer_mode new) mode holdings against.1.0) is.0,
-    λ q one other mine there.
-        ⊎_elim (λ here. absurd (none-some other (sym against.1.1 ∙ ap (λ k. at k theirs) (sym here.0) ∙ there))) (λ elsewhere. is.1 q one other elsewhere.1 there)
-        (put-cases q row (record { table = table; image = new; number = numbers + 1 }) one writes mine))
+Joint-put rows numbers db theirs table (Some row) new (Some mode) stands low against writes holdings saved is = (
+  Rows_written-put rows rows numbers db (omega arith) row table new (Some mode) writes holdings saved against.0
+      (λ stored there. Holds-locked row (writer_mode new) mode holdings against.1.0) is.0,
+  λ q one other mine there.
+      ⊎_elim (λ here. absurd (none-some other (sym against.1.1 ∙ ap (λ k. at k theirs) (sym here.0) ∙ there))) (λ elsewhere. is.1 q one other elsewhere.1 there)
+      (put-cases q row (record { table = table; image = new; number = numbers + 1 }) one writes mine),
+)
 
 -- ---- a session's scene, beside what another session has written
 
@@ -181,14 +185,15 @@ module _ (theirs : Option Transaction) (world : World) where
   commit-stands (Some t) db mine others =
       let next : Database = latest_view world.history t.work.writes in
       let rise : KeysRise t.work.writes = mine.0.0.rise in
-      subst (λ last. Database_stands world.rows last × Of_transaction (Rows_written world.rows world.writes last) theirs) (sym (last-append world.history next))
-      (record {
+      subst (λ last. Database_stands world.rows last × Of_transaction (Rows_written world.rows world.writes last) theirs) (sym (last-append world.history next)) (
+        record {
           rise = KeysRise-overlay (last_number world.history + 1) t.work.writes (last_database world.history) db.rise;
           drawn = λ row stored is.
               ⊎_elim (λ written. mine.0.0.drawn row written.0 written.1) (λ was. db.drawn row stored was.1)
               (from_view (last_number world.history + 1) t.work.writes (last_database world.history) row stored (at row t.work.writes) rise refl is);
         },
-        their_commit world.rows world.writes (last_number world.history + 1) (last_database world.history) t.work.writes theirs rise mine.1 others)
+        their_commit world.rows world.writes (last_number world.history + 1) (last_database world.history) t.work.writes theirs rise mine.1 others,
+      )
 
 -- ---- effects
 
@@ -307,10 +312,11 @@ module _ (program : Program) (st : State) (s : ℕ) where
   alone-fits : (mine : Writes) (rise : KeysRise mine) (low : (q : ℕ) (one : Write) → at q mine ≡ Some one → q ≤ rows) (db : Database_stands rows last) (change : Change) (row : Option ℕ) (old new : Option Row) (lock : Option LockMode) →
       Fits_parts program.schema.catalog (around st) s mine change row old new lock → Change_against rows [] row new lock
   alone-fits mine rise low db change None None (Some new) None fits = tt
-  alone-fits mine rise low db change (Some row) (Some old) new (Some mode) fits =
-      (⊎_elim (λ (written : (one : Write) × (at row mine ≡ Some one)). low row written.0 written.1) (λ (was : (at row mine ≡ None) × (at row last ≡ Some fits.stored)). db.drawn row fits.stored was.1)
-          (from_view (last_number st.world.history + 1) mine last row fits.stored (at row mine) rise refl fits.stands),
-      (writer-mode program.schema.catalog (around st) s mine change row old new mode fits.fits, refl))
+  alone-fits mine rise low db change (Some row) (Some old) new (Some mode) fits = (
+    ⊎_elim (λ (written : (one : Write) × (at row mine ≡ Some one)). low row written.0 written.1) (λ (was : (at row mine ≡ None) × (at row last ≡ Some fits.stored)). db.drawn row fits.stored was.1)
+        (from_view (last_number st.world.history + 1) mine last row fits.stored (at row mine) rise refl fits.stands),
+    (writer-mode program.schema.catalog (around st) s mine change row old new mode fits.fits, refl),
+  )
   alone-fits mine rise low db change None old new lock fits = tt
   alone-fits mine rise low db change row old new lock fits = absurd fits
 
@@ -333,7 +339,7 @@ module _ (program : Program) (st : State) (s : ℕ) where
 
   step-rests : (theirs : Option Transaction) →
       ((change : Change) (row : Option ℕ) (old new : Option Row) (lock : Option LockMode) → Fits_parts program.schema.catalog (around st) s (writes_in (session_at st s).transaction) change row old new lock →
-          Change_against rows (writes_in theirs) row new lock) →
+      Change_against rows (writes_in theirs) row new lock) →
       Kind_of_step program st s → Rest_on theirs (effects_of program st s) (scene_of st s) program s
   step-rests theirs against (Changing_a_row change lock triggers task changes) =
       subst (λ es. Rest_on theirs es (scene_of st s) program s) (sym changes.are)
