@@ -12,6 +12,7 @@ pub mod Holdings_apart
 pub mod Written
 pub mod Written_apart
 pub mod Ranks
+pub mod Waits_ordered
 pub mod Worked
 pub mod Told_apart
 mod Schedules
