@@ -12,10 +12,10 @@ IsIn ns n = is_in ns n ≡ true
 
 -- ---- members
 
-in-cases : (m n : ℕ) (ns : List ℕ) → IsIn (m ∷ ns) n → (m ≡ n) ⊎ IsIn ns n
+pub in-cases : (m n : ℕ) (ns : List ℕ) → IsIn (m ∷ ns) n → (m ≡ n) ⊎ IsIn ns n
 in-cases m n ns is = ⊎_elim (λ same. inl (eqb-true m n same)) (λ later. inr later) (or_cases (m == n) (is_in ns n) is)
 
-in-first : (m : ℕ) (ns : List ℕ) → IsIn (m ∷ ns) m
+pub in-first : (m : ℕ) (ns : List ℕ) → IsIn (m ∷ ns) m
 in-first m ns = ap (λ b. b || is_in ns m) (eq-eqb m m refl)
 
 or_right : (a b : Bool) → b ≡ true → (a || b) ≡ true
@@ -26,10 +26,10 @@ or_left : (a b : Bool) → a ≡ true → (a || b) ≡ true
 or_left true b is = refl
 or_left false b is = absurd (true≢false (sym is))
 
-in-later : (m n : ℕ) (ns : List ℕ) → IsIn ns n → IsIn (m ∷ ns) n
+pub in-later : (m n : ℕ) (ns : List ℕ) → IsIn ns n → IsIn (m ∷ ns) n
 in-later m n ns is = or_right (m == n) (is_in ns n) is
 
-in-none : (n : ℕ) → IsIn [] n → ⊥
+pub in-none : (n : ℕ) → IsIn [] n → ⊥
 in-none n is = true≢false (sym is)
 
 pub any-in : (p : ℕ → Bool) (ns : List ℕ) (n : ℕ) → IsIn ns n → p n ≡ true → list_any p ns ≡ true
