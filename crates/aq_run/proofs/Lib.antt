@@ -13,6 +13,7 @@ pub mod Written
 pub mod Written_apart
 pub mod Ranks
 pub mod Waits_ordered
+pub mod Waits_kept
 pub mod Worked
 pub mod Told_apart
 mod Schedules

@@ -77,7 +77,7 @@ find-none p (m ∷ ns) n none is = find-step p m n ns (p m) refl (λ none' later
 
 -- ---- counts
 
-abbrev count : (ℕ → Bool) → List ℕ → ℕ
+abbrev pub count : (ℕ → Bool) → List ℕ → ℕ
 count p [] = 0
 count p (n ∷ ns) = if p n then count p ns + 1 else count p ns
 
@@ -154,7 +154,7 @@ lift-new false false m n more e f less = absurd (true≢false (sym f))
 -- ---- the nodes that lead to a goal
 
 module _ (next : ℕ → List ℕ) (all : List ℕ) (goal : ℕ) (rank : ℕ → ℕ) (goal_in : IsIn all goal) where
-  abbrev from_fewer : ℕ → ℕ → Bool
+  abbrev pub from_fewer : ℕ → ℕ → Bool
   from_fewer n k = (k == goal) || list_any (is_in (reaching next all goal n)) (next k)
 
   reach-inside : (n k : ℕ) → IsIn (reaching next all goal n) k → IsIn all k
@@ -178,7 +178,7 @@ module _ (next : ℕ → List ℕ) (all : List ℕ) (goal : ℕ) (rank : ℕ →
   reach-by (suc more) n k is = let e : suc (more + n) ≡ suc more + n = omega arith in subst (λ m. IsIn (reaching next all goal m) k) e (reach-more (more + n) k (reach-by more n k is))
 
   -- by as many waits as its rank
-  abbrev leads : ℕ → Bool
+  abbrev pub leads : ℕ → Bool
   leads i = is_in (reaching next all goal (rank i)) i
 
   leads-on : (i k : ℕ) → IsIn all i → IsIn (next i) k → rank k < rank i → leads k ≡ true → leads i ≡ true
@@ -197,7 +197,7 @@ module _ (next : ℕ → List ℕ) (all : List ℕ) (goal : ℕ) (rank : ℕ →
 
   -- ---- new edges out of the goal, to nodes that don't lead to it
 
-  abbrev lifted : ℕ → ℕ
+  abbrev pub lifted : ℕ → ℕ
   lifted i = if leads i then rank i + length all else rank i
 
   pub lifted-old : (i k : ℕ) → IsIn all i → IsIn (next i) k → rank k < rank i → lifted k < lifted i

@@ -139,7 +139,7 @@ from_view commit writes db row stored None rise is there = inr (is, sym (at-unwr
 from_view commit writes db row stored (Some one) rise is there = inl (one, is)
 
 -- rows that no commit has touched
-abbrev Untouched : Writes → Database → Database → Type 0
+abbrev pub Untouched : Writes → Database → Database → Type 0
 Untouched writes db next = (row : ℕ) (one : Write) → at row writes ≡ Some one → at row next ≡ at row db
 
 Written-untouched : (rows numbers : ℕ) (db next : Database) (writes : Writes) (holdings : Holdings) → Untouched writes db next → Written rows numbers db writes holdings → Written rows numbers next writes holdings
@@ -233,13 +233,37 @@ effect-stands program s theirs e scene rests stands =
       others = stands.others;
     }
 
-abbrev Rest_on : Option Transaction → List Effect → Scene → Program → ℕ → Type 0
+apart-none : (mine theirs : Writes) → Apart_writes mine theirs → (row : ℕ) (other : Write) → at row theirs ≡ Some other → (found : Option Write) → at row mine ≡ found → at row mine ≡ None
+apart-none mine theirs apart row other there None found = found
+apart-none mine theirs apart row other there (Some one) found = absurd (apart row one other found there)
+
+commit-untouched : (theirs : Option Transaction) (world : World) (t : Option Transaction) → Of_transaction (Joint world.rows world.writes (last_database world.history) (writes_in theirs)) t →
+    Untouched (writes_in theirs) (last_database world.history) (last_database (world.history ++ committed world t))
+commit-untouched theirs world None mine row one is = ap (λ history. at row (last_database history)) (append-nil world.history)
+commit-untouched theirs world (Some t) mine row one is =
+    ap (at row) (last-append world.history (latest_view world.history t.work.writes)) ∙
+    at-unwritten (last_number world.history + 1) t.work.writes (last_database world.history) row mine.0.0.rise (apart-none t.work.writes (writes_in theirs) mine.1 row one is (at row t.work.writes) refl)
+
+effect-untouched : (program : Program) (s : ℕ) (theirs : Option Transaction) (e : Effect) (scene : Scene) → Scene_stands theirs scene →
+    Untouched (writes_in theirs) (last_database scene.world.history) (last_database (effect program s e scene).world.history)
+unfolding effect
+effect-untouched program s theirs Commits scene stands = commit-untouched theirs scene.world scene.me.transaction stands.mine
+effect-untouched program s theirs e scene stands = λ row one is. refl
+
+abbrev pub Rest_on : Option Transaction → List Effect → Scene → Program → ℕ → Type 0
 Rest_on theirs [] scene program s = Unit {0}
 Rest_on theirs (e ∷ es) scene program s = Rests_on theirs scene.world e × Rest_on theirs es (effect program s e scene) program s
 
 effects-stand : (program : Program) (s : ℕ) (theirs : Option Transaction) (es : List Effect) (scene : Scene) → Rest_on theirs es scene program s → Scene_stands theirs scene → Scene_stands theirs (effects program s es scene)
 effects-stand program s theirs [] scene rest stands = stands
 effects-stand program s theirs (e ∷ es) scene rest stands = effects-stand program s theirs es (effect program s e scene) rest.1 (effect-stands program s theirs e scene rest.0 stands)
+
+-- no effect changes a row of the last database that another session has written
+effects-untouched : (program : Program) (s : ℕ) (theirs : Option Transaction) (es : List Effect) (scene : Scene) → Rest_on theirs es scene program s → Scene_stands theirs scene →
+    Untouched (writes_in theirs) (last_database scene.world.history) (last_database (effects program s es scene).world.history)
+effects-untouched program s theirs [] scene rest stands row one is = refl
+effects-untouched program s theirs (e ∷ es) scene rest stands row one is =
+    effects-untouched program s theirs es (effect program s e scene) rest.1 (effect-stands program s theirs e scene rest.0 stands) row one is ∙ effect-untouched program s theirs e scene stands row one is
 
 -- ---- what a step does, against another session
 
@@ -392,7 +416,7 @@ module _ (rows numbers : ℕ) (db : Database) where
   own-rise (Some t) own = own.0.rise
 
 module _ (program : Program) (st : State) (s : ℕ) (all : All_written st) where
-  abbrev after_scene : Scene
+  abbrev pub after_scene : Scene
   after_scene = effects program s (effects_of program st s) (scene_of st s)
 
   abbrev mine_before : Option Transaction
@@ -409,6 +433,13 @@ module _ (program : Program) (st : State) (s : ℕ) (all : All_written st) where
   stepped_beside theirs rest others apart =
       effects-stand program s theirs (effects_of program st s) (scene_of st s) rest
       (record { db = all.db; mine = joint-from st.world.rows st.world.writes (last_database st.world.history) (writes_in theirs) mine_before (all.own s) apart; others = others })
+
+  pub untouched_by_step : (j : ℕ) → j ≢ s → Untouched (writes_in (session_at st j).transaction) (last_database st.world.history) (last_database after_scene.world.history)
+  untouched_by_step j other =
+      let apart : Apart_writes (writes_in mine_before) (writes_in (session_at st j).transaction) = all.apart s j (λ same. other (sym same)) in
+      effects-untouched program s (session_at st j).transaction (effects_of program st s) (scene_of st s)
+      (step-rests program st s (session_at st j).transaction (against-fits program st s j other (writes_in mine_before) rise_before low_before all.db (all.own j) apart) (kind_of_step program st s))
+      (record { db = all.db; mine = joint-from st.world.rows st.world.writes (last_database st.world.history) (writes_in (session_at st j).transaction) mine_before (all.own s) apart; others = all.own j })
 
   stepped_alone : Scene_stands None after_scene
   stepped_alone =
