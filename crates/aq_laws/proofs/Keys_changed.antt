@@ -32,7 +32,7 @@ in-behind n (m ∷ some) more is = in-later m n (some ++ more) (in-behind n some
 
 in-place : (test : UniqueKey → Bool) (keys : List UniqueKey) (first n : ℕ) (key : UniqueKey) → slice_get keys n ≡ Some key → test key ≡ true →
     IsIn (flat_map (λ entry. if test entry.1 then entry.0 ∷ [] else []) (enumerate_from first keys)) (first + n)
-in-place test [] first n key is holds = absurd (none-some key is)
+in-place test [] first n key is holds = absurd (grind (arith, is))
 in-place test (one ∷ keys) first zero key is holds = here (test one) (ap test (same_Some one key is) ∙ holds)
   where
     here : (b : Bool) → b ≡ true → IsIn ((if b then first ∷ [] else []) ++ flat_map (λ entry. if test entry.1 then entry.0 ∷ [] else []) (enumerate_from (first + 1) keys)) (first + 0)

@@ -23,6 +23,7 @@ use Rattle.aq_run.specs.Programs.{Program}
 use Rattle.aq_run.specs.States.{Task, Transaction, Session, World, State, at_start, nobody, opening, session_at, around, written_by}
 use Rattle.aq_run.specs.Effects.{Effect, Scene, effect, effects, on_session, row_of, version_of, committed}
 use Rattle.aq_run.specs.Effects.Effect.{Resumes, Counts_step, Changes, Turns, Commits, Starts_waiting}
+use Rattle.aq_run.specs.Waits.{blockers}
 use Rattle.aq_run.specs.Steps.{step, effects_of, scene_of, counting, count_effects, is_counted_with}
 use Rattle.aq_run.proofs.Views.{at-overlay, at-unwritten, at-written}
 use Rattle.aq_run.proofs.Parts.{Fact, Of_transaction, Goes_with_copies, on_session-over}
@@ -32,7 +33,7 @@ use Rattle.aq_run.proofs.Free_rows.{Fits_parts, Changes_row, Puts}
 use Rattle.aq_run.proofs.Free_plans.{Is_allowed, Each}
 use Rattle.aq_run.proofs.Free_steps.{writes_in, Kind_of_step, kind_of_step}
 use Rattle.aq_run.proofs.Free_steps.Kind_of_step.{Changing_a_row, Without_a_change, Waiting}
-use Rattle.aq_run.proofs.Ranks.{IsIn, in-first, in-later, find-none}
+use Rattle.aq_run.proofs.Ranks.{contains-in, find-none}
 use Rattle.aq_laws.proofs.Keys.{Keys_stand, Keys_apart, Keys_apart-either, Keys_apart-none, New_alone, New_apart, Keys_stand-put, Keys_apart-put, Keys_stand-commit, Keys_stand-next, image-is, image_shown, stored_shown, shown_of, row_in, row_in-view}
 use Rattle.aq_laws.proofs.Keys_changed.{insert-alone, insert-apart, update-alone, update-apart}
 
@@ -91,10 +92,6 @@ module _ (P : Writes → Type 0) where
 abbrev pub Null_free : Catalog → ℕ → Row → Type 0
 Null_free cat table values =
     (t : Table) → slice_get cat.tables table ≡ Some t → (col : ℕ) → Contains t.not_null col → is_null (unwrap_or (slice_get values col) Null) ≡ false
-
-contains-in : (ns : List ℕ) (n : ℕ) → Contains ns n → IsIn ns n
-contains-in [] n c = absurd (Contains-none n c)
-contains-in (m ∷ ns) n c = ⊎_elim (λ (same : m ≡ n). subst (IsIn (m ∷ ns)) same (in-first m ns)) (λ later. in-later m n ns (contains-in ns n later)) (Contains-cons_cases m n ns c)
 
 pub puts-null_free : (cat : Catalog) (table : ℕ) (values : Row) → find (holds_null values) (not_null_columns (slice_get cat.tables table)) ≡ None → Null_free cat table values
 puts-null_free cat table values none t is col c =
@@ -393,7 +390,7 @@ module _ (program : Program) (st : State) (s : ℕ) (written : All_written st) (
         subst (λ es. Keys_beside the_cat theirs (effects program s es (scene_of st s))) (sym are)
         (effects-keys program the_cat s theirs (Resumes ∷ rest) (scene_of st s) (tt, none-allowed rest each) scene-before)
     scene-after (Waiting ask are none) =
-        subst (λ es. Keys_beside the_cat theirs (effects program s es (scene_of st s))) (sym are) (effects-keys program the_cat s theirs (Starts_waiting ask _ ∷ []) (scene_of st s) (tt, tt) scene-before)
+        subst (λ es. Keys_beside the_cat theirs (effects program s es (scene_of st s))) (sym are) (effects-keys program the_cat s theirs (Starts_waiting ask (blockers program st s ask) ∷ []) (scene_of st s) (tt, tt) scene-before)
 
   -- ---- the next state
 

@@ -1,3 +1,4 @@
+pub mod Ranked
 pub mod Written_works
 pub mod Keys
 pub mod Keys_changed

@@ -1,10 +1,11 @@
 -- Graphs along whose edges a rank falls: they have no cycle, and stay so when edges are added that close none.
-use Rattle.std.proofs.Common.{◌≡◌, ◌≢◌, ℕ, ◌≤◌, ◌<◌, Bool, true, false, arith, List, [], ◌∷◌, Option, Some, None, refl, sym, ap, ◌∙◌, subst, ⊎_elim, ◌⊎◌, inl, inr, eqb-true}
+use Rattle.std.proofs.Common.{◌≡◌, ◌≢◌, ℕ, ◌≤◌, ◌<◌, Bool, true, false, arith, List, [], ◌∷◌, Option, Some, None, refl, sym, ap, ◌∙◌, subst, ⊎_elim, ◌⊎◌, inl, inr, eqb-true, Contains}
 use Rattle.std.specs.Prelude.{◌+◌, ◌-◌, ◌==◌, ◌||◌, zero, suc, length, filter, find, map, is_some, nat_lt, if◌then◌else◌}
 use Rattle.std.specs.List.{list_any, enumerate_from}
 use Rattle.std.proofs.lemmas.Bool.{true≢false, cases_eq, eq-eqb, or_cases}
 use Rattle.std.proofs.lemmas.Bool.Decides.{nat_tests}
 use Rattle.std.proofs.lemmas.Option.{none-some}
+use Rattle.aq_base.proofs.Lists.{Contains-none, Contains-cons_cases}
 use Rattle.aq_run.specs.Waits.{is_in, reaching, first_among, is_way, way, shortest, cycle_by, cycle_through}
 
 abbrev pub IsIn : List ℕ → ℕ → Type 0
@@ -31,6 +32,10 @@ in-later m n ns is = or_right (m == n) (is_in ns n) is
 
 pub in-none : (n : ℕ) → IsIn [] n → ⊥
 in-none n is = true≢false (sym is)
+
+pub contains-in : (ns : List ℕ) (n : ℕ) → Contains ns n → IsIn ns n
+contains-in [] n c = absurd (Contains-none n c)
+contains-in (m ∷ ns) n c = ⊎_elim (λ (same : m ≡ n). subst (IsIn (m ∷ ns)) same (in-first m ns)) (λ later. in-later m n ns (contains-in ns n later)) (Contains-cons_cases m n ns c)
 
 pub any-in : (p : ℕ → Bool) (ns : List ℕ) (n : ℕ) → IsIn ns n → p n ≡ true → list_any p ns ≡ true
 any-in p [] n is holds = absurd (in-none n is)

@@ -25,7 +25,7 @@ use Rattle.aq_run.specs.Steps.{step, effects_of, scene_of, count_effects, is_cou
 use Rattle.aq_run.specs.Runs.{Schedule, run_from, CanRunFrom, IsSchedule, run}
 use Rattle.aq_run.proofs.Parts.{Of_transaction}
 use Rattle.aq_run.proofs.Written.{Written, Rewritten, Within, Within-trans, Copies_written, Rows_written}
-use Rattle.aq_run.proofs.Written_apart.{Untouched, All_written, session-cases, step-written, opening-written, after_scene, untouched_by_step}
+use Rattle.aq_run.proofs.Written_apart.{Untouched, All_written, session-cases, step-written, opening-written, untouched_by_step}
 use Rattle.aq_run.proofs.Free_plans.{Is_allowed, Each}
 use Rattle.aq_run.proofs.Free_steps.{writes_in, Kind_of_step, kind_of_step}
 use Rattle.aq_run.proofs.Free_steps.Kind_of_step.{Changing_a_row, Without_a_change, Waiting}
@@ -87,9 +87,13 @@ counted-never : (counted : Bool) (es : List Effect) → Each Never_waits es → 
 counted-never true es each = (tt, each)
 counted-never false es each = each
 
+-- the session's scene after the step
+abbrev pub stepped : Program → State → ℕ → Scene
+stepped program st s = effects program s (effects_of program st s) (scene_of st s)
+
 -- what a step leaves of the session's wait
 pub data After_step (program : Program) (st : State) (s : ℕ) : Type 0 where
-  No_wait : (after_scene program st s).me.waits ≡ None → After_step program st s
+  No_wait : (stepped program st s).me.waits ≡ None → After_step program st s
   A_wait : (ask : Ask) → effects_of program st s ≡ Starts_waiting ask (blockers program st s ask) ∷ [] → closes program st s (blockers program st s ask) ≡ None → After_step program st s
 
 after-kind : (program : Program) (st : State) (s : ℕ) → Kind_of_step program st s → After_step program st s
@@ -107,10 +111,10 @@ numbers-length (entry ∷ entries) first = let rest = numbers-length entries (fi
 
 module _ (program : Program) (st : State) (s : ℕ) (all : All_written st) (within : s < length st.sessions) (ordered : Is_ordered program st) where
   abbrev me_after : Session
-  me_after = (after_scene program st s).me
+  me_after = (stepped program st s).me
 
   abbrev next_state : State
-  next_state = record { world = (after_scene program st s).world; sessions = slice_set st.sessions s me_after }
+  next_state = record { world = (stepped program st s).world; sessions = slice_set st.sessions s me_after }
 
   me-there : session_at next_state s ≡ me_after
   me-there = get_or-set_same st.sessions s me_after nobody within
@@ -127,7 +131,7 @@ module _ (program : Program) (st : State) (s : ℕ) (all : All_written st) (with
   db_before = last_database st.world.history
 
   abbrev db_after : Database
-  db_after = last_database (after_scene program st s).world.history
+  db_after = last_database (stepped program st s).world.history
 
   -- a wait of one other session for one other session is as it was
   old-wait : (i k : ℕ) → i ≢ s → k ≢ s → IsIn (waits_for program next_state i) k → IsIn (waits_for program st i) k
@@ -189,18 +193,18 @@ module _ (program : Program) (st : State) (s : ℕ) (all : All_written st) (with
   abbrev after : State
   after = next_state program st s all within ordered
 
-  scene-is : after_scene program st s ≡ effect program s (Starts_waiting ask bs) (scene_of st s)
+  scene-is : stepped program st s ≡ effect program s (Starts_waiting ask bs) (scene_of st s)
   scene-is = ap (λ es. effects program s es (scene_of st s)) are
 
   history-is : after.world.history ≡ st.world.history
   unfolding effect
   history-is = ap (λ scene. scene.world.history) scene-is
 
-  transaction-is : (after_scene program st s).me.transaction ≡ (session_at st s).transaction
+  transaction-is : (stepped program st s).me.transaction ≡ (session_at st s).transaction
   unfolding effect
   transaction-is = ap (λ scene. scene.me.transaction) scene-is
 
-  waits-is : (after_scene program st s).me.waits ≡ Some ask
+  waits-is : (stepped program st s).me.waits ≡ Some ask
   unfolding effect
   waits-is = ap (λ scene. scene.me.waits) scene-is
 
@@ -270,16 +274,19 @@ module _ (program : Program) (st : State) (s : ℕ) (all : All_written st) (with
 
 -- ---- every state of every run
 
+first-part : (a b : Bool) → (a && b) ≡ true → a ≡ true
+first-part true b e = refl
+first-part false b e = absurd (true≢false (sym e))
+
+is-session : (s n : ℕ) → nat_lt s n ≡ true → s < n
+is-session s n e = grind (arith, nat_tests, e)
+
 step-ordered : (program : Program) (st : State) (s : ℕ) → All_written st → is_enabled program st s ≡ true → Is_ordered program st → Is_ordered program (step program st s)
 unfolding step
 step-ordered program st s all enabled ordered = by_kind (after-kind program st s (kind_of_step program st s))
   where
     within : s < length st.sessions
-    within = first_part (nat_lt s (length st.sessions)) (not (session_at st s).ended && is_empty (waits_for program st s)) enabled
-      where
-        first_part : (a b : Bool) → (a && b) ≡ true → a ≡ true
-        first_part true b e = refl
-        first_part false b e = absurd (true≢false (sym e))
+    within = is-session s (length st.sessions) (first-part (nat_lt s (length st.sessions)) (not (session_at st s).ended && is_empty (waits_for program st s)) enabled)
 
     by_kind : After_step program st s → Is_ordered program (next_state program st s all within ordered)
     by_kind (No_wait none) = no-wait-ordered program st s all within ordered none

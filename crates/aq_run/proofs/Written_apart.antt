@@ -116,7 +116,7 @@ abbrev pub Rests_on : Option Transaction → World → Effect → Type 0
 Rests_on theirs world (Changes change lock triggers) = Change_against world.rows (writes_in theirs) change.row change.new lock
 Rests_on theirs world _ = Unit {0}
 
-their_rows : (rows numbers : ℕ) (db : Database) (theirs : Option Transaction) → Of_transaction (Rows_written rows numbers db) theirs → (q : ℕ) (other : Write) → at q (writes_in theirs) ≡ Some other → q ≤ rows
+pub their_rows : (rows numbers : ℕ) (db : Database) (theirs : Option Transaction) → Of_transaction (Rows_written rows numbers db) theirs → (q : ℕ) (other : Write) → at q (writes_in theirs) ≡ Some other → q ≤ rows
 their_rows rows numbers db None is q other there = absurd (none-some other there)
 their_rows rows numbers db (Some t) is q other there = is.0.drawn q other there
 
@@ -133,7 +133,7 @@ database_growth rows db (Some row) stands = stands
 -- ---- the commit
 
 -- rows of the next database are written, or were in the last one
-from_view : (commit : ℕ) (writes : Writes) (db : Database) (row : ℕ) (stored : Stored) (found : Option Write) → KeysRise writes → at row writes ≡ found → at row (overlay commit writes db) ≡ Some stored →
+pub from_view : (commit : ℕ) (writes : Writes) (db : Database) (row : ℕ) (stored : Stored) (found : Option Write) → KeysRise writes → at row writes ≡ found → at row (overlay commit writes db) ≡ Some stored →
     ((one : Write) × (at row writes ≡ Some one)) ⊎ ((at row writes ≡ None) × (at row db ≡ Some stored))
 from_view commit writes db row stored None rise is there = inr (is, sym (at-unwritten commit writes db row rise is) ∙ there)
 from_view commit writes db row stored (Some one) rise is there = inl (one, is)
@@ -320,7 +320,7 @@ module _ (program : Program) (st : State) (s : ℕ) where
         (strong new mode (writer-mode program.schema.catalog (around st) s mine change row old new mode fits.fits))))
         (from_view (last_number st.world.history + 1) mine last row fits.stored (at row mine) rise refl fits.stands)
 
-    against-fits : (change : Change) (row : Option ℕ) (old new : Option Row) (lock : Option LockMode) → Fits_parts program.schema.catalog (around st) s mine change row old new lock → Change_against rows their_writes row new lock
+    pub against-fits : (change : Change) (row : Option ℕ) (old new : Option Row) (lock : Option LockMode) → Fits_parts program.schema.catalog (around st) s mine change row old new lock → Change_against rows their_writes row new lock
     against-fits change None None (Some new) None fits = tt
     against-fits change (Some row) (Some old) new (Some mode) fits =
         (known row fits.stored fits.stands, (writer-mode program.schema.catalog (around st) s mine change row old new mode fits.fits, none_of_theirs change row old new mode fits (at row their_writes) refl))
@@ -333,7 +333,7 @@ module _ (program : Program) (st : State) (s : ℕ) where
     against-fits change row old new lock fits = absurd fits
 
   -- with nobody else
-  alone-fits : (mine : Writes) (rise : KeysRise mine) (low : (q : ℕ) (one : Write) → at q mine ≡ Some one → q ≤ rows) (db : Database_stands rows last) (change : Change) (row : Option ℕ) (old new : Option Row) (lock : Option LockMode) →
+  pub alone-fits : (mine : Writes) (rise : KeysRise mine) (low : (q : ℕ) (one : Write) → at q mine ≡ Some one → q ≤ rows) (db : Database_stands rows last) (change : Change) (row : Option ℕ) (old new : Option Row) (lock : Option LockMode) →
       Fits_parts program.schema.catalog (around st) s mine change row old new lock → Change_against rows [] row new lock
   alone-fits mine rise low db change None None (Some new) None fits = tt
   alone-fits mine rise low db change (Some row) (Some old) new (Some mode) fits = (
@@ -399,7 +399,7 @@ Apart_writes-none : (theirs : Writes) → Apart_writes [] theirs
 Apart_writes-none theirs row one other is there = none-some one is
 
 module _ (rows numbers : ℕ) (db : Database) where
-  joint-from : (theirs : Writes) (t : Option Transaction) → Of_transaction (Rows_written rows numbers db) t → Apart_writes (writes_in t) theirs → Of_transaction (Joint rows numbers db theirs) t
+  pub joint-from : (theirs : Writes) (t : Option Transaction) → Of_transaction (Rows_written rows numbers db) t → Apart_writes (writes_in t) theirs → Of_transaction (Joint rows numbers db theirs) t
   joint-from theirs None own apart = tt
   joint-from theirs (Some t) own apart = (own, apart)
 
@@ -411,7 +411,7 @@ module _ (rows numbers : ℕ) (db : Database) where
   joint-apart theirs None joint = Apart_writes-none theirs
   joint-apart theirs (Some t) joint = joint.1
 
-  own-rise : (t : Option Transaction) → Of_transaction (Rows_written rows numbers db) t → KeysRise (writes_in t)
+  pub own-rise : (t : Option Transaction) → Of_transaction (Rows_written rows numbers db) t → KeysRise (writes_in t)
   own-rise None own = tt
   own-rise (Some t) own = own.0.rise
 
