@@ -5,3 +5,4 @@ pub mod Keys_changed
 pub mod Keys_kept
 pub mod References
 pub mod References_changed
+pub mod References_checked
