@@ -109,6 +109,20 @@ numbers-length : {A : Type 0} (entries : List A) (first : ℕ) → length (map (
 numbers-length [] first = refl
 numbers-length (entry ∷ entries) first = let rest = numbers-length entries (first + 1) in omega (arith, rest)
 
+-- who steps on is ranked lowest
+abbrev by_session : Bool → ℕ → ℕ
+by_session true rank = 0
+by_session false rank = rank + 1
+
+abbrev lowered : (ℕ → ℕ) → ℕ → ℕ → ℕ
+lowered rank s i = by_session (i == s) (rank i)
+
+lowered-same : (rank : ℕ → ℕ) (s : ℕ) → lowered rank s s ≡ 0
+lowered-same rank s = ap (λ b. by_session b (rank s)) (eq-eqb s s refl)
+
+lowered-other : (rank : ℕ → ℕ) (s i : ℕ) → i ≢ s → lowered rank s i ≡ rank i + 1
+lowered-other rank s i other = ap (λ b. by_session b (rank i)) (ne_eqb i s other)
+
 module _ (program : Program) (st : State) (s : ℕ) (all : All_written st) (within : s < length st.sessions) (ordered : Is_ordered program st) where
   abbrev me_after : Session
   me_after = (stepped program st s).me
@@ -146,34 +160,24 @@ module _ (program : Program) (st : State) (s : ℕ) (all : All_written st) (with
           let before : is_waited_for program db_before ask (session_at st k) ≡ true = sym (waited-same program ask (session_at st k) db_before db_after untouched) ∙ there in
           subst (λ a. IsIn (blockers_of program st i a) k) (sym was) (waited-to program st i ask k (subst (λ n. k < n) same-many found.0) found.1.0 before)
 
+  nobody-waited : me_after.waits ≡ None → (k : ℕ) → IsIn (waits_for program next_state s) k → ⊥
+  nobody-waited none k edge = in-none k (subst (λ a. IsIn (blockers_of program next_state s a) k) (ap (λ session. session.waits) me-there ∙ none) edge)
+
+  no-wait-falls : me_after.waits ≡ None → Falls (waits_for program next_state) (lowered ordered.rank s)
+  no-wait-falls none i k edge =
+      ⊎_elim (λ (same : i ≡ s). absurd (nobody-waited none k (subst (λ j. IsIn (waits_for program next_state j) k) same edge)))
+      (λ (other : i ≢ s).
+      ⊎_elim
+      (λ (same : k ≡ s).
+      let a : lowered ordered.rank s k ≡ 0 = ap (lowered ordered.rank s) same ∙ lowered-same ordered.rank s in let b = lowered-other ordered.rank s i other in omega (arith, a, b))
+      (λ (away : k ≢ s).
+      let a = lowered-other ordered.rank s k away in
+      let b = lowered-other ordered.rank s i other in let less : ordered.rank k < ordered.rank i = ordered.falls i k (old-wait i k other away edge) in omega (arith, a, b, less))
+      (cases_eq k s))
+      (cases_eq i s)
+
   no-wait-ordered : me_after.waits ≡ None → Is_ordered program next_state
-  no-wait-ordered none = record { rank = new_rank; falls = new_falls }
-    where
-      by_session : Bool → ℕ → ℕ
-      by_session true r = 0
-      by_session false r = r + 1
-
-      new_rank : ℕ → ℕ
-      new_rank i = by_session (i == s) (ordered.rank i)
-
-      at_s : new_rank s ≡ 0
-      at_s = ap (λ b. by_session b (ordered.rank s)) (eq-eqb s s refl)
-
-      elsewhere : (i : ℕ) → i ≢ s → new_rank i ≡ ordered.rank i + 1
-      elsewhere i other = ap (λ b. by_session b (ordered.rank i)) (ne_eqb i s other)
-
-      nobody_waited : (k : ℕ) → IsIn (waits_for program next_state s) k → ⊥
-      nobody_waited k edge = in-none k (subst (λ a. IsIn (blockers_of program next_state s a) k) (ap (λ session. session.waits) me-there ∙ none) edge)
-
-      new_falls : Falls (waits_for program next_state) new_rank
-      new_falls i k edge =
-          ⊎_elim (λ (same : i ≡ s). absurd (nobody_waited k (subst (λ j. IsIn (waits_for program next_state j) k) same edge)))
-          (λ (other : i ≢ s).
-          ⊎_elim (λ (same : k ≡ s). let a : new_rank k ≡ 0 = ap new_rank same ∙ at_s in let b = elsewhere i other in omega (arith, a, b))
-          (λ (away : k ≢ s).
-          let a = elsewhere k away in let b = elsewhere i other in let less : ordered.rank k < ordered.rank i = ordered.falls i k (old-wait i k other away edge) in omega (arith, a, b, less))
-          (cases_eq k s))
-          (cases_eq i s)
+  no-wait-ordered none = record { rank = lowered ordered.rank s; falls = no-wait-falls none }
 
 -- being waited for is by what the session's transaction has
 waited-transaction : (program : Program) (db : Database) (ask : Option Ask) (one other : Session) → one.transaction ≡ other.transaction → is_waited_for program db ask one ≡ is_waited_for program db ask other
