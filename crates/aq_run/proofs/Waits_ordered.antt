@@ -157,7 +157,7 @@ module _ (program : Program) (st : State) (i : ℕ) where
   waited-to (Some (For_key key values apart)) k low other waits = key-to values apart (slice_get program.schema.catalog.keys key) k low other waits
 
 -- who waits is a session
-in_range : (all : List Session) (j : ℕ) (ask : Ask) → (slice_index_or all j nobody).waits ≡ Some ask → j < length all
+pub in_range : (all : List Session) (j : ℕ) (ask : Ask) → (slice_index_or all j nobody).waits ≡ Some ask → j < length all
 in_range [] zero ask is = absurd (none-some ask is)
 in_range [] (suc j) ask is = absurd (none-some ask is)
 in_range (one ∷ all) zero ask is = omega arith
@@ -184,7 +184,7 @@ touches-same values apart (Some key) works db next untouched =
     entry_same entry same =
         ap (λ found. not (is_apart apart entry.0) && (entry.1.table == key.table && (image_has_key key.cols values entry.1.image || stored_has_key key.table key.cols values found))) same
 
-waited-same : (program : Program) (ask : Option Ask) (session : Session) (db next : Database) → All_untouched (written_by session) db next → is_waited_for program next ask session ≡ is_waited_for program db ask session
+pub waited-same : (program : Program) (ask : Option Ask) (session : Session) (db next : Database) → All_untouched (written_by session) db next → is_waited_for program next ask session ≡ is_waited_for program db ask session
 waited-same program None session db next untouched = refl
 waited-same program (Some (For_row row mode)) session db next untouched = refl
 waited-same program (Some (For_key key values apart)) session db next untouched =
