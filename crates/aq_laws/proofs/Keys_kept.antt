@@ -200,7 +200,10 @@ with-writes : (P : Writes → Type 0) (t : Option Transaction) → Of_transactio
 with-writes P None all = tt
 with-writes P (Some t) all = (refl, all)
 
-counted-keep : (P : Fact) (t : Option Transaction) → Of_transaction P t → Of_transaction P (option_map (λ t. record t { steps = t.steps + 1 }) t)
+abbrev with_step : Transaction → Transaction
+with_step t = record t { steps = t.steps + 1 }
+
+counted-keep : (P : Fact) (t : Option Transaction) → Of_transaction P t → Of_transaction P (option_map with_step t)
 counted-keep P None is = tt
 counted-keep P (Some t) is = is
 
@@ -234,7 +237,7 @@ module _ (program : Program) (cat : Catalog) (s : ℕ) (theirs : List Writes) (c
   changing-keys true =
       record {
         db = keeps.db;
-        mine = changed-mine (option_map (λ t. record t { steps = t.steps + 1 }) scene.me.transaction) (record (scene.me) { waits = None; transaction = option_map (λ t. record t { steps = t.steps + 1 }) scene.me.transaction }) refl
+        mine = changed-mine (option_map with_step scene.me.transaction) (record (scene.me) { waits = None; transaction = option_map with_step scene.me.transaction }) refl
             (counted-keep With_mine scene.me.transaction (with-writes P scene.me.transaction keeps.mine)) scene.world refl;
         others = keeps.others;
       }
