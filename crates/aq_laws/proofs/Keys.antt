@@ -1,21 +1,18 @@
 -- Unique keys: they hold in what each work of a transaction shows, and no two transactions have written one key. What a change, and another
 -- transaction's commit, leave of that.
-use Rattle.std.proofs.Common.{◌≡◌, ◌≢◌, ℕ, ◌≤◌, ◌<◌, Bool, true, false, not, arith, List, [], ◌∷◌, ◌++◌, Option, Some, None, Contains, refl, sym, ap, ◌∙◌, subst, ⊎_elim, ◌⊎◌, inl, inr}
-use Rattle.std.specs.Prelude.{◌+◌, ◌==◌, ◌&&◌, ◌||◌, zero, suc, slice_get, filter, length, if◌then◌else◌}
-use Rattle.std.specs.List.{list_any, list_all, enumerate_from, flat_map}
-use Rattle.std.proofs.lemmas.Bool.{true≢false, false≢true, cases_eq, eq-eqb, ne_eqb, and_parts, and_from, or_cases}
+use Rattle.std.proofs.Common.{◌≡◌, ◌≢◌, ℕ, true, not, List, [], ◌∷◌, Option, Some, None, Contains, refl, sym, ap, ◌∙◌, ⊎_elim, ◌⊎◌, inl, inr}
+use Rattle.std.proofs.lemmas.Bool.{false≢true, cases_eq, and_parts, and_from}
 use Rattle.std.proofs.lemmas.Option.{same_Some, none-some}
 use Rattle.aq_base.specs.Values.{Row, is_null, same_value, same_values, values_match, keys_match, values_at, has_no_null}
 use Rattle.aq_base.specs.declared.value.Value.{Value}
 use Rattle.aq_base.specs.declared.value.Value.TheVariants.{Null, Bool as Truth, Int, Text}
 use Rattle.aq_base.specs.declared.catalog.UniqueKey.{UniqueKey}
-use Rattle.aq_base.proofs.Values.{keys_match-same, keys_match-sym, keys_match-self}
+use Rattle.aq_base.proofs.Values.{keys_match-sym}
 use Rattle.aq_base.specs.Maps.{at, with_at}
 use Rattle.aq_base.proofs.Maps.{KeysRise, at-with_at_same, at-with_at_other}
-use Rattle.aq_base.specs.Databases.{Database, Stored, has_key}
+use Rattle.aq_base.specs.Databases.{Database, Stored}
 use Rattle.aq_base.specs.Writes.{Write, Writes, overlay}
 use Rattle.aq_run.proofs.Views.{newest, stored_by, at-overlay}
-use Rattle.aq_run.proofs.Ranks.{IsIn, in-first, in-later, in-none, in-cases, in-filter}
 
 -- ---- keys that match
 

@@ -1,8 +1,8 @@
 -- The keys of a new version: what a change rests on keeps every key of the table to one row, and apart from what others have written.
-use Rattle.std.proofs.Common.{◌≡◌, ◌≢◌, ℕ, ◌≤◌, ◌<◌, Bool, true, false, not, arith, List, [], ◌∷◌, ◌++◌, Option, Some, None, Contains, refl, sym, ap, ◌∙◌, subst, ⊎_elim, ◌⊎◌, inl, inr}
-use Rattle.std.specs.Prelude.{◌+◌, ◌==◌, ◌&&◌, ◌||◌, zero, suc, slice_get, filter, find, length, if◌then◌else◌}
+use Rattle.std.proofs.Common.{◌≡◌, ◌≢◌, ℕ, ◌<◌, Bool, true, false, not, arith, List, [], ◌∷◌, ◌++◌, Option, Some, None, Contains, refl, sym, ap, ◌∙◌, subst, ⊎_elim, ◌⊎◌, inl, inr}
+use Rattle.std.specs.Prelude.{◌+◌, ◌==◌, ◌&&◌, ◌||◌, zero, suc, slice_get, length, if◌then◌else◌}
 use Rattle.std.specs.List.{list_any, enumerate_from, flat_map}
-use Rattle.std.proofs.lemmas.Bool.{true≢false, false≢true, cases_eq, eq-eqb, ne_eqb, and_parts, and_from, or_parts}
+use Rattle.std.proofs.lemmas.Bool.{false≢true, cases_eq, eq-eqb, ne_eqb, and_from, or_parts}
 use Rattle.std.proofs.lemmas.Option.{same_Some, none-some}
 use Rattle.aq_base.specs.Values.{Row, same_values, keys_match, values_at, has_no_null}
 use Rattle.aq_base.specs.declared.catalog.UniqueKey.{UniqueKey}
@@ -11,7 +11,7 @@ use Rattle.aq_base.proofs.Lists.{Contains-none, Contains-cons_cases, slice_get-C
 use Rattle.aq_base.specs.Maps.{at}
 use Rattle.aq_base.proofs.Maps.{KeysRise, at-first, at-rest}
 use Rattle.aq_base.specs.Databases.{Database, Stored, has_key, last_number, last_database}
-use Rattle.aq_base.specs.Writes.{Write, Writes, overlay, latest_view}
+use Rattle.aq_base.specs.Writes.{Write, Writes, latest_view}
 use Rattle.aq_base.specs.Blockers.{is_apart, image_has_key, stored_has_key, touches_key}
 use Rattle.aq_base.specs.Blockers.Ask.{For_key}
 use Rattle.aq_setup.specs.Catalogs.{Catalog, keys_of}

@@ -1,14 +1,12 @@
 -- The unique keys and the columns without null, from state to state: in the last database, in what each work of a transaction shows, and from one
 -- transaction to another.
-use Rattle.std.proofs.Common.{◌≡◌, ◌≢◌, ℕ, ◌≤◌, ◌<◌, Bool, true, false, not, arith, List, [], ◌∷◌, ◌++◌, Option, Some, None, Contains, refl, sym, ap, ◌∙◌, subst, ⊎_elim, ◌⊎◌, inl, inr, append-nil}
-use Rattle.std.specs.Prelude.{◌+◌, ◌==◌, zero, suc, slice_get, slice_index_or, slice_set, find, length, map, drop, option_map, unwrap_or, is_some}
-use Rattle.std.proofs.lemmas.Bool.{true≢false, cases_eq}
+use Rattle.std.proofs.Common.{◌≡◌, ◌≢◌, ℕ, ◌<◌, Bool, true, false, arith, List, [], ◌∷◌, ◌++◌, Option, Some, None, Contains, refl, sym, ap, ◌∙◌, subst, ⊎_elim, ◌⊎◌, inl, inr, append-nil}
+use Rattle.std.specs.Prelude.{◌+◌, zero, suc, slice_get, slice_index_or, slice_set, find, length, map, drop, option_map, unwrap_or}
 use Rattle.std.proofs.lemmas.Option.{same_Some, none-some}
 use Rattle.aq_base.specs.Names.{Text}
 use Rattle.aq_base.specs.Values.{Row, is_null}
 use Rattle.aq_base.specs.declared.value.Value.TheVariants.{Null}
 use Rattle.aq_base.specs.declared.catalog.Table.{Table}
-use Rattle.aq_base.specs.declared.catalog.UniqueKey.{UniqueKey}
 use Rattle.aq_base.proofs.Lists.{Contains-none, Contains-first, Contains-later, Contains-cons_cases}
 use Rattle.aq_base.specs.Maps.{at, with_at}
 use Rattle.aq_base.proofs.Maps.{KeysRise, KeysRise-with_at}
@@ -17,24 +15,24 @@ use Rattle.aq_base.specs.Writes.{Write, Writes, overlay, latest_view}
 use Rattle.aq_base.specs.LockModes.{Holdings}
 use Rattle.aq_base.specs.Works.{Saved}
 use Rattle.aq_base.specs.declared.data.LockMode.{LockMode}
-use Rattle.aq_setup.specs.Catalogs.{Catalog, keys_of}
+use Rattle.aq_setup.specs.Catalogs.{Catalog}
 use Rattle.aq_outcomes.specs.Rows.{Change, changed_keys, holds_null, not_null_columns}
 use Rattle.aq_run.specs.Programs.{Program}
 use Rattle.aq_run.specs.States.{Task, Transaction, Session, World, State, at_start, nobody, opening, session_at, around, written_by}
 use Rattle.aq_run.specs.Effects.{Effect, Scene, effect, effects, on_session, row_of, version_of, committed}
-use Rattle.aq_run.specs.Effects.Effect.{Resumes, Counts_step, Changes, Turns, Commits, Starts_waiting}
+use Rattle.aq_run.specs.Effects.Effect.{Resumes, Changes, Turns, Commits, Starts_waiting}
 use Rattle.aq_run.specs.Waits.{blockers}
 use Rattle.aq_run.specs.Steps.{step, effects_of, scene_of, counting, count_effects, is_counted_with}
-use Rattle.aq_run.proofs.Views.{at-overlay, at-unwritten, at-written}
+use Rattle.aq_run.proofs.Views.{at-unwritten}
 use Rattle.aq_run.proofs.Parts.{Fact, Of_transaction, Goes_with_copies, on_session-over}
 use Rattle.aq_run.proofs.Written.{Rewritten, Within, Within-self, Within-trans, Copies_written, Rows_written, put-cases}
 use Rattle.aq_run.proofs.Written_apart.{last-append, session-cases, All_written, Change_against, against-fits, their_rows, own-rise}
-use Rattle.aq_run.proofs.Free_rows.{Fits_parts, Changes_row, Puts}
+use Rattle.aq_run.proofs.Free_rows.{Fits_parts, Puts}
 use Rattle.aq_run.proofs.Free_plans.{Is_allowed, Each}
 use Rattle.aq_run.proofs.Free_steps.{writes_in, Kind_of_step, kind_of_step}
 use Rattle.aq_run.proofs.Free_steps.Kind_of_step.{Changing_a_row, Without_a_change, Waiting}
 use Rattle.aq_run.proofs.Ranks.{contains-in, find-none}
-use Rattle.aq_laws.proofs.Keys.{Keys_stand, Keys_apart, Keys_apart-either, Keys_apart-none, New_alone, New_apart, Keys_stand-put, Keys_apart-put, Keys_stand-commit, Keys_stand-next, image-is, image_shown, stored_shown, shown_of, row_in, row_in-view}
+use Rattle.aq_laws.proofs.Keys.{Keys_stand, Keys_apart, Keys_apart-either, Keys_apart-none, New_alone, New_apart, Keys_stand-put, Keys_apart-put, Keys_stand-commit, Keys_stand-next, image-is, stored_shown, shown_of, row_in-view}
 use Rattle.aq_laws.proofs.Keys_changed.{insert-alone, insert-apart, update-alone, update-apart}
 
 -- ---- a fact of each work
@@ -67,15 +65,17 @@ module _ (P : Writes → Type 0) where
 
   copies-to : (saved : List Saved) → ((writes : Writes) → Contains (map (λ one. one.work.writes) saved) writes → P writes) → Copies_all P saved
   copies-to [] each = tt
-  copies-to (one ∷ others) each =
-      (each one.work.writes (Contains-first one.work.writes (map (λ one. one.work.writes) others)),
-      copies-to others (λ writes c. each writes (Contains-later one.work.writes writes (map (λ one. one.work.writes) others) c)))
+  copies-to (one ∷ others) each = (
+    each one.work.writes (Contains-first one.work.writes (map (λ one. one.work.writes) others)),
+    copies-to others (λ writes c. each writes (Contains-later one.work.writes writes (map (λ one. one.work.writes) others) c)),
+  )
 
   pub works-to : (t : Option Transaction) → ((writes : Writes) → Contains (works_in t) writes → P writes) → Of_transaction (Works_all P) t
   works-to None each = tt
-  works-to (Some t) each =
-      (each t.work.writes (Contains-first t.work.writes (map (λ one. one.work.writes) t.saved)),
-      copies-to t.saved (λ writes c. each writes (Contains-later t.work.writes writes (map (λ one. one.work.writes) t.saved) c)))
+  works-to (Some t) each = (
+    each t.work.writes (Contains-first t.work.writes (map (λ one. one.work.writes) t.saved)),
+    copies-to t.saved (λ writes c. each writes (Contains-later t.work.writes writes (map (λ one. one.work.writes) t.saved) c)),
+  )
 
   copies-from : (saved : List Saved) → Copies_all P saved → (writes : Writes) → Contains (map (λ one. one.work.writes) saved) writes → P writes
   copies-from [] all writes c = absurd (Contains-none writes c)
@@ -123,17 +123,18 @@ pub record New_keeps (cat : Catalog) (db : Database) (mine : Writes) (theirs : L
 
 keeps-put : (cat : Catalog) (db : Database) (mine : Writes) (theirs : List Writes) (row : ℕ) (version : Write) → New_keeps cat db mine theirs row version.table version.image → Keeps_beside cat db theirs mine →
     Keeps_beside cat db theirs (with_at row version mine)
-keeps-put cat db mine theirs row version new keeps =
-    (record {
-        rise = KeysRise-with_at row version mine keeps.0.rise;
-        keys = Keys_stand-put cat.keys mine db row version new.alone keeps.0.keys;
-        nulls = λ q one values is image.
-            ⊎_elim
-            (λ (here : (q ≡ row) × (version ≡ one)).
-            subst (λ w. (image : w.image ≡ Some values) → Null_free cat w.table values) here.1 (λ image. new.nulls values image) image)
-            (λ (elsewhere : (q ≢ row) × (at q mine ≡ Some one)). keeps.0.nulls q one values elsewhere.1 image) (put-cases q row version one mine is);
-      },
-    λ other c. Keys_apart-put cat.keys mine other row version (new.apart other c) (keeps.1 other c))
+keeps-put cat db mine theirs row version new keeps = (
+  record {
+    rise = KeysRise-with_at row version mine keeps.0.rise;
+    keys = Keys_stand-put cat.keys mine db row version new.alone keeps.0.keys;
+    nulls = λ q one values is image.
+        ⊎_elim
+        (λ (here : (q ≡ row) × (version ≡ one)).
+        subst (λ w. (image : w.image ≡ Some values) → Null_free cat w.table values) here.1 (λ image. new.nulls values image) image)
+        (λ (elsewhere : (q ≢ row) × (at q mine ≡ Some one)). keeps.0.nulls q one values elsewhere.1 image) (put-cases q row version one mine is);
+  },
+  λ other c. Keys_apart-put cat.keys mine other row version (new.apart other c) (keeps.1 other c),
+)
 
 -- ---- a commit
 
@@ -173,9 +174,10 @@ module _ (cat : Catalog) (theirs : List Writes) (world : World) where
       ((other : Writes) → Contains theirs other → Work_keeps cat (last_database world.history) other) → After_commit (world.history ++ committed world t)
   commit-keeps None db mine others = subst After_commit (sym (append-nil world.history)) (db, others)
   commit-keeps (Some t) db mine others =
-      subst (λ last. Database_keeps cat last × ((other : Writes) → Contains theirs other → Work_keeps cat last other)) (sym (last-append world.history (latest_view world.history t.work.writes)))
-      (next-keeps cat (last_number world.history + 1) t.work.writes (last_database world.history) mine.0.0 db,
-      λ other c. their-keeps cat (last_number world.history + 1) t.work.writes other (last_database world.history) mine.0.0 (mine.0.1 other c) (others other c))
+      subst (λ last. Database_keeps cat last × ((other : Writes) → Contains theirs other → Work_keeps cat last other)) (sym (last-append world.history (latest_view world.history t.work.writes))) (
+        next-keeps cat (last_number world.history + 1) t.work.writes (last_database world.history) mine.0.0 db,
+        λ other c. their-keeps cat (last_number world.history + 1) t.work.writes other (last_database world.history) mine.0.0 (mine.0.1 other c) (others other c),
+      )
 
 effect-keys : (program : Program) (cat : Catalog) (s : ℕ) (theirs : List Writes) (e : Effect) (scene : Scene) → No_change e → Keys_beside cat theirs scene → Keys_beside cat theirs (effect program s e scene)
 unfolding effect
@@ -220,9 +222,11 @@ module _ (program : Program) (cat : Catalog) (s : ℕ) (theirs : List Writes) (c
 
   put-mine : (number : ℕ) (writes : Writes) (holdings : Holdings) (saved : List Saved) → With_mine writes holdings saved →
       P (with_at (row_of scene.world change) (record { table = change.table; image = change.new; number = number }) writes) × Copies_all P saved
-  put-mine number writes holdings saved is =
-      (keeps-put cat here writes theirs (row_of scene.world change) (record { table = change.table; image = change.new; number = number })
-          (subst (λ w. New_keeps cat here w theirs (row_of scene.world change) change.table change.new) (sym is.0) new) is.1.0, is.1.1)
+  put-mine number writes holdings saved is = (
+    keeps-put cat here writes theirs (row_of scene.world change) (record { table = change.table; image = change.new; number = number })
+        (subst (λ w. New_keeps cat here w theirs (row_of scene.world change) change.table change.new) (sym is.0) new) is.1.0,
+    is.1.1,
+  )
 
   changed-mine : (t : Option Transaction) (me : Session) → me.transaction ≡ t → Of_transaction With_mine t → (world : World) → world.rows ≡ scene.world.rows →
       Of_transaction (Works_all P) (on_session program world (Changes change lock triggers) me).transaction
@@ -353,7 +357,7 @@ module _ (program : Program) (st : State) (s : ℕ) (written : All_written st) (
         let stored : Stored = fits.stored in
         let in_table : stored.table ≡ change.table = table row stored refl fits.stands in
         let puts : Puts the_cat (around st) s wrote change.table (Some row) (changed_keys the_cat change.table stored.values new) new =
-            subst (λ values. Puts the_cat (around st) s wrote change.table (Some row) (changed_keys the_cat change.table values new) new) (sym fits.is_old) fits.fits.1.1 in
+        subst (λ values. Puts the_cat (around st) s wrote change.table (Some row) (changed_keys the_cat change.table values new) new) (sym fits.is_old) fits.fits.1.1 in
         record {
           alone = update-alone program st s wrote wrote-rise change.table row stored new wrote-keeps.keys fits.stands in_table puts;
           apart = λ other c.

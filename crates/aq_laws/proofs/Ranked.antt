@@ -1,10 +1,10 @@
 -- Waits are ranked, hence not circular.
-use Rattle.std.proofs.Common.{◌≡◌, ℕ, ◌≤◌, ◌<◌, zero, suc, arith, Contains, refl, sym, ap, subst}
+use Rattle.std.proofs.Common.{◌≡◌, ℕ, ◌≤◌, zero, suc, arith, ap}
 use Rattle.std.specs.Prelude.{◌+◌}
 use Rattle.aq_run.specs.Programs.{Program}
 use Rattle.aq_run.specs.States.{State}
 use Rattle.aq_run.specs.Waits.{waits_for}
-use Rattle.aq_run.specs.Runs.{Schedule, IsSchedule, run}
+use Rattle.aq_run.specs.Runs.{run}
 use Rattle.aq_run.proofs.Ranks.{contains-in}
 use Rattle.aq_run.proofs.Waits_kept.{Is_ordered, waits_are_ordered}
 use Rattle.aq_laws.specs.Waits.{IsRanked, WaitsAreRanked, Leads, NoWaitIsCircular}

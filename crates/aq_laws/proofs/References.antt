@@ -1,16 +1,15 @@
 -- References: which child rows of a work refer to a parent, what accounts for each, and that another transaction's commit leaves that so.
-use Rattle.std.proofs.Common.{◌≡◌, ◌≢◌, ℕ, Bool, true, false, List, [], ◌∷◌, Option, Some, None, Contains, refl, sym, ap, ◌∙◌, subst, ⊎_elim, ◌⊎◌, inl, inr, map, drop}
-use Rattle.std.specs.Prelude.{slice_get, unwrap_or, ◌&&◌}
-use Rattle.std.proofs.lemmas.Bool.{false≢true, and_parts, and_from}
+use Rattle.std.proofs.Common.{◌≡◌, ℕ, true, List, [], ◌∷◌, Option, Some, None, Contains, refl, sym, ap, ◌∙◌, subst, ⊎_elim, ◌⊎◌, drop}
+use Rattle.std.specs.Prelude.{slice_get, unwrap_or}
+use Rattle.std.proofs.lemmas.Bool.{and_parts, and_from}
 use Rattle.std.proofs.lemmas.Option.{same_Some, none-some}
 use Rattle.aq_base.specs.Values.{Row, values_match, keys_match, values_at}
 use Rattle.aq_base.specs.declared.value.Value.{Value}
 use Rattle.aq_base.specs.declared.value.Value.TheVariants.{Null}
 use Rattle.aq_base.specs.declared.catalog.UniqueKey.{UniqueKey}
 use Rattle.aq_base.specs.declared.catalog.ForeignKey.{ForeignKey}
-use Rattle.aq_base.specs.declared.data.LockMode.{LockMode}
 use Rattle.aq_base.specs.declared.data.LockMode.TheVariants.{Update, KeyShare}
-use Rattle.aq_base.proofs.Values.{keys_match-same, keys_match-sym}
+use Rattle.aq_base.proofs.Values.{keys_match-same}
 use Rattle.aq_base.proofs.Lists.{Contains-none, Contains-first, Contains-later, Contains-cons_cases}
 use Rattle.aq_base.specs.References.{is_reference}
 use Rattle.aq_base.specs.Maps.{at}
@@ -107,7 +106,7 @@ pub record Is_backed (keys : List UniqueKey) (f : ForeignKey) : Type 0 where
 pub one-parent : (keys : List UniqueKey) (f : ForeignKey) (writes : Writes) (db : Database) (p q : ℕ) (key : Row) → Is_backed keys f → Keys_stand keys writes db → Covers f writes db p key → Covers f writes db q key → p ≡ q
 one-parent keys f writes db p q key backed stand one other =
     let same : keys_match (values_at f.parent_cols one.values) (values_at f.parent_cols other.values) ≡ true =
-        ap (keys_match (values_at f.parent_cols one.values)) (keys_match-same (values_at f.parent_cols other.values) key other.matches) ∙ one.matches in
+    ap (keys_match (values_at f.parent_cols one.values)) (keys_match-same (values_at f.parent_cols other.values) key other.matches) ∙ one.matches in
     stand backed.key backed.among p q one.values other.values (one.shown ∙ ap (λ t. Some (t, one.values)) (sym backed.table)) (other.shown ∙ ap (λ t. Some (t, other.values)) (sym backed.table))
     (cols-match backed.key.cols f.parent_cols one.values other.values backed.back same)
 
@@ -151,7 +150,7 @@ kept-key keys f writes holdings db next row key one backed guarded free is cover
     (λ (same : Same_keys keys found.0 one).
     let at_key : values_at backed.key.cols same.values ≡ values_at backed.key.cols found.0.values = same.same backed.key backed.among (backed.table ∙ sym found.2) in
     let at_parent : values_at f.parent_cols same.values ≡ values_at f.parent_cols covers.values =
-        cols-equal f.parent_cols backed.key.cols same.values found.0.values backed.there at_key ∙ ap (values_at f.parent_cols) found.3 in
+    cols-equal f.parent_cols backed.key.cols same.values found.0.values backed.there at_key ∙ ap (values_at f.parent_cols) found.3 in
     record {
       values = same.values;
       shown = ap (λ write. shown_of write (at row next)) is ∙ ap (image_shown one.table) same.image ∙ ap (λ t. Some (t, same.values)) (same.table ∙ found.2);
@@ -232,7 +231,7 @@ module _ (keys : List UniqueKey) (f : ForeignKey) (backed : Is_backed keys f) (c
         values_at f.child_cols values ≡ key → at parent writes ≡ None → Covers f writes db parent key → Is_accounted child key
     as-committed child parent key one values is refers shown key_is none covers =
         let again : Refers f [] next child key =
-            record { values = values; shown = ap stored_shown (untouched-row child (not-theirs child one is (at child committing) refl)) ∙ shown; key_is = key_is; refers = refers } in
+        record { values = values; shown = ap stored_shown (untouched-row child (not-theirs child one is (at child committing) refl)) ∙ shown; key_is = key_is; refers = refers } in
         let covered : Covered f [] next key = references-next child key again in
         by_writer covered (at covered.parent writes) refl
       where
@@ -240,7 +239,7 @@ module _ (keys : List UniqueKey) (f : ForeignKey) (backed : Is_backed keys f) (c
         by_writer covered None found = from-next child covered.parent key covered.covers found
         by_writer covered (Some other) found =
             let same : parent ≡ covered.parent =
-                one-before parent covered.parent key other found covered.covers (move-covers f writes [] db db parent key (unwritten-row writes db parent none) covers) in
+            one-before parent covered.parent key other found covered.covers (move-covers f writes [] db db parent key (unwritten-row writes db parent none) covers) in
             absurd (none-some other (sym none ∙ ap (λ k. at k writes) same ∙ found))
 
     -- its parent is one that the other transaction has changed
@@ -278,7 +277,7 @@ module _ (keys : List UniqueKey) (f : ForeignKey) (backed : Is_backed keys f) (c
         by_writer (Some three) found = by_parent covered.parent child key (move-covers f writes writes db next covered.parent key (written-row writes db next covered.parent three found) covered.covers)
         by_writer None found =
             let same : covered.parent ≡ parent =
-                one-before covered.parent parent key two there covers (move-covers f writes [] db db covered.parent key (unwritten-row writes db covered.parent found) covered.covers) in
+            one-before covered.parent parent key two there covers (move-covers f writes [] db db covered.parent key (unwritten-row writes db covered.parent found) covered.covers) in
             absurd (none-some two (sym found ∙ ap (λ k. at k writes) same ∙ there))
 
     before : (child parent : ℕ) (key : Row) (two : Write) → at child writes ≡ None → at parent writes ≡ Some two → Covers f [] next parent key → Refers f [] db child key → Is_accounted child key
@@ -294,7 +293,7 @@ module _ (keys : List UniqueKey) (f : ForeignKey) (backed : Is_backed keys f) (c
     by-their-safety child parent key two none there covers refers (Held_parent p held covers') =
         let same : p ≡ parent = one-parent keys f committing db p parent key backed their_keys covers' (move-covers f [] committing next db parent key (shown-next parent) covers) in
         let in_db : Covers f [] db parent key =
-            move-covers f [] [] next db parent key (ap stored_shown (untouched-row parent (not-theirs parent two there (at parent committing) refl))) covers in
+        move-covers f [] [] next db parent key (ap stored_shown (untouched-row parent (not-theirs parent two there (at parent committing) refl))) covers in
         by_parent parent child key
         (kept-key keys f writes holdings db next parent key two backed mine_guard (λ update. their_free parent (subst (λ k. Holds k KeyShare their_holdings) same held) update) there in_db)
     by-their-safety child parent key two none there covers refers (As_committed values shown key_is) =

@@ -1,20 +1,18 @@
 -- References in a transaction's own steps: a new version of a row, and events that have been done.
-use Rattle.std.proofs.Common.{◌≡◌, ◌≢◌, ℕ, Bool, true, false, Option, Some, None, refl, sym, ap, ◌∙◌, subst, ⊎_elim, ◌⊎◌, inl, inr}
+use Rattle.std.proofs.Common.{◌≡◌, ◌≢◌, ℕ, Some, None, sym, ap, ◌∙◌, subst, ⊎_elim, ◌⊎◌, inl}
 use Rattle.std.proofs.lemmas.Bool.{cases_eq}
-use Rattle.std.proofs.lemmas.Option.{same_Some, none-some}
 use Rattle.aq_base.specs.Values.{Row, values_at}
 use Rattle.aq_base.specs.declared.catalog.ForeignKey.{ForeignKey}
 use Rattle.aq_base.specs.declared.data.LockMode.TheVariants.{KeyShare}
-use Rattle.aq_base.specs.References.{is_reference}
 use Rattle.aq_base.specs.Maps.{at, with_at}
 use Rattle.aq_base.proofs.Maps.{at-with_at_same, at-with_at_other}
-use Rattle.aq_base.specs.Databases.{Database, Stored}
+use Rattle.aq_base.specs.Databases.{Database}
 use Rattle.aq_base.specs.Writes.{Write, Writes}
 use Rattle.aq_base.specs.LockModes.{Holdings}
 use Rattle.aq_run.proofs.Copies_fit.{Holds, Fits}
-use Rattle.aq_run.proofs.Written.{Holds-fits, put-cases}
-use Rattle.aq_laws.proofs.Keys.{stored_shown, shown_of, image_shown, row_in}
-use Rattle.aq_laws.proofs.References.{Refers, Covers, Covered, Accounted, Safe, References_stand, unwritten-row, move-covers, move-refers}
+use Rattle.aq_run.proofs.Written.{Holds-fits}
+use Rattle.aq_laws.proofs.Keys.{stored_shown, shown_of, row_in}
+use Rattle.aq_laws.proofs.References.{Refers, Covers, Accounted, Safe, References_stand, unwritten-row, move-covers, move-refers}
 use Rattle.aq_laws.proofs.References.Accounted.{By_parent, By_check, By_action}
 use Rattle.aq_laws.proofs.References.Safe.{Written_parent, Held_parent, As_committed, To_be_checked, To_be_acted_on}
 

@@ -1,26 +1,25 @@
 -- What a check has found out where it passes: a parent that is there, or no child that refers.
-use Rattle.std.proofs.Common.{◌≡◌, ◌≢◌, ℕ, Bool, true, false, not, List, [], ◌∷◌, Option, Some, None, Contains, refl, sym, ap, ◌∙◌, subst, ⊎_elim, ◌⊎◌, inl, inr, eqb-true}
-use Rattle.std.specs.Prelude.{◌+◌, ◌==◌, ◌&&◌, ◌||◌, filter, is_some, unwrap_or}
-use Rattle.std.proofs.lemmas.Bool.{true≢false, false≢true, cases_eq, eq-eqb, and_parts, and_from}
+use Rattle.std.proofs.Common.{◌≡◌, ◌≢◌, ℕ, Bool, true, false, not, List, [], ◌∷◌, Option, Some, None, Contains, refl, sym, ap, ◌∙◌, subst, ⊎_elim, eqb-true}
+use Rattle.std.specs.Prelude.{◌+◌, ◌==◌, ◌&&◌, filter, is_some, unwrap_or}
+use Rattle.std.proofs.lemmas.Bool.{true≢false, cases_eq, eq-eqb, and_parts, and_from}
 use Rattle.std.proofs.lemmas.Option.{same_Some, none-some}
 use Rattle.aq_base.specs.Values.{Row, keys_match, values_at}
 use Rattle.aq_base.specs.declared.catalog.ForeignKey.{ForeignKey}
 use Rattle.aq_base.specs.declared.data.LockMode.TheVariants as modes
-use Rattle.aq_base.proofs.Values.{keys_match-same, keys_match-sym, keys_match-self}
 use Rattle.aq_base.proofs.Lists.{Contains-none, Contains-first, Contains-later, Contains-filter, Kept, Kept-filter}
 use Rattle.aq_base.specs.Maps.{at}
 use Rattle.aq_base.proofs.Maps.{KeysRise, at-Contains, at-first, at-rest}
 use Rattle.aq_base.specs.Databases.{Database, Stored, rows_with_key, has_key, last_number, last_database, database_at}
-use Rattle.aq_base.specs.Writes.{Write, Writes, has_written, overlay, view_at, latest_view}
+use Rattle.aq_base.specs.Writes.{Write, has_written, view_at}
 use Rattle.aq_base.specs.Blockers.{row_blockers}
 use Rattle.aq_base.specs.Events.{Event}
 use Rattle.aq_base.specs.References.{is_reference, is_mixture}
 use Rattle.aq_outcomes.specs.Parties.{Around, Party, latest, seen, seen_number}
 use Rattle.aq_outcomes.specs.Queued.{key_in}
-use Rattle.aq_outcomes.specs.References.{Checked, child_check, no_action_check, restrict_check, locking, is_live, unless_held, unless_gone, has_gone, still_has, on_parents, with_parent, look_for_parent, where_reference, unless_mixed, where_live, check_key, with_child, look_for_child, with_other_parent, old_key}
+use Rattle.aq_outcomes.specs.References.{Checked, child_check, no_action_check, restrict_check, is_live, unless_held, unless_gone, has_gone, still_has, on_parents, look_for_parent, where_reference, unless_mixed, where_live, check_key, with_child, with_other_parent, old_key}
 use Rattle.aq_outcomes.specs.References.Checked.{Passes, Skips, Pair}
 use Rattle.aq_run.proofs.Views.{KeysRise-overlay}
-use Rattle.aq_laws.proofs.Keys.{stored_shown, shown_of, image_shown, row_in, row_in-view}
+use Rattle.aq_laws.proofs.Keys.{stored_shown, shown_of, row_in, row_in-view}
 use Rattle.aq_laws.proofs.References.{Refers, Covers, unwritten-row}
 
 -- ---- rows with a key
@@ -30,7 +29,7 @@ first-with_key : (table : ℕ) (cols : List ℕ) (key : Row) (view : Database) (
     (at entry.0 view ≡ Some entry.1) × (has_key table cols key entry.1 ≡ true)
 first-with_key table cols key view entry rest rise is =
     let kept : Kept (λ one. has_key table cols key one.1) view entry =
-        Kept-filter (λ one. has_key table cols key one.1) view entry (subst (λ found. Contains found entry) (sym is) (Contains-first entry rest)) in
+    Kept-filter (λ one. has_key table cols key one.1) view entry (subst (λ found. Contains found entry) (sym is) (Contains-first entry rest)) in
     (at-Contains entry view rise kept.was, kept.passes)
 
 pair-same : (entry : ℕ × Stored) (n : ℕ) (stored : Stored) → entry.0 ≡ n → entry.1 ≡ stored → entry ≡ (n, stored)

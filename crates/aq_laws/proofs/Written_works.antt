@@ -1,26 +1,24 @@
 -- The rows that the works of a transaction have written, from those that the last of them has.
-use Rattle.std.proofs.Common.{◌≡◌, ◌≢◌, ℕ, ◌≤◌, Bool, true, false, arith, List, [], ◌∷◌, Option, Some, None, Contains, refl, sym, ap, ◌∙◌, subst, ⊎_elim, map}
-use Rattle.std.specs.Prelude.{is_some, nat_le}
+use Rattle.std.proofs.Common.{◌≡◌, ℕ, ◌≤◌, true, false, arith, List, [], ◌∷◌, Option, Some, None, Contains, refl, sym, ap, ◌∙◌, subst, ⊎_elim, map}
+use Rattle.std.specs.Prelude.{is_some}
 use Rattle.std.proofs.lemmas.Bool.{true≢false}
 use Rattle.std.proofs.lemmas.Bool.Decides.{nat_tests}
-use Rattle.std.proofs.lemmas.Option.{same_Some, none-some}
 use Rattle.aq_base.proofs.Lists.{Contains-none, Contains-cons_cases}
 use Rattle.aq_base.specs.Values.{Row}
 use Rattle.aq_base.specs.Maps.{at}
-use Rattle.aq_base.specs.Databases.{Database, Stored, last_database}
+use Rattle.aq_base.specs.Databases.{Database, last_database}
 use Rattle.aq_base.specs.Writes.{Write, Writes, has_written}
-use Rattle.aq_base.specs.LockModes.{Holdings, strength}
+use Rattle.aq_base.specs.LockModes.{strength}
 use Rattle.aq_base.specs.Works.{Work, Saved}
 use Rattle.aq_base.specs.declared.data.LockMode.{LockMode}
-use Rattle.aq_run.specs.Programs.{Program}
-use Rattle.aq_run.specs.States.{Transaction, Session, State, session_at}
-use Rattle.aq_run.specs.Runs.{Schedule, run}
+use Rattle.aq_run.specs.States.{Transaction, session_at}
+use Rattle.aq_run.specs.Runs.{run}
 use Rattle.aq_run.proofs.Parts.{Of_transaction}
 use Rattle.aq_run.proofs.Copies_fit.{is_at_most, Holds}
 use Rattle.aq_run.proofs.Free_steps.{writes_in}
 use Rattle.aq_run.proofs.Written.{writer_mode, Written, Rewritten, Within, Within-self, Within-trans, Copies_written, Rows_written}
 use Rattle.aq_run.proofs.Written_apart.{All_written, written_rows_are_held}
-use Rattle.aq_laws.specs.Writes.{works_of, IsHeld, least_mode, WritesAreApart, WrittenRowsAreHeld}
+use Rattle.aq_laws.specs.Writes.{least_mode, WritesAreApart, WrittenRowsAreHeld}
 
 -- a work of the transaction is written, and its rows are written again by the present work
 pub record Work_written (rows numbers : ℕ) (db : Database) (present : Writes) (work : Work) : Type 0 where
@@ -57,9 +55,9 @@ writes_apart program schedule i j differ mine theirs c d row has =
     let st = run program schedule in
     let all : All_written st = written_rows_are_held program schedule in
     let one : Work_written st.world.rows st.world.writes (last_database st.world.history) (writes_in (session_at st i).transaction) mine =
-        of_work st.world.rows st.world.writes (last_database st.world.history) (session_at st i).transaction mine (all.own i) c in
+    of_work st.world.rows st.world.writes (last_database st.world.history) (session_at st i).transaction mine (all.own i) c in
     let other : Work_written st.world.rows st.world.writes (last_database st.world.history) (writes_in (session_at st j).transaction) theirs =
-        of_work st.world.rows st.world.writes (last_database st.world.history) (session_at st j).transaction theirs (all.own j) d in
+    of_work st.world.rows st.world.writes (last_database st.world.history) (session_at st j).transaction theirs (all.own j) d in
     let here = has-some row mine.writes (at row mine.writes) refl has in
     has-none row theirs.writes (at row theirs.writes) refl
     (λ write there.
@@ -76,6 +74,6 @@ rows_held program schedule i work c row one stored is there =
     let st = run program schedule in
     let all : All_written st = written_rows_are_held program schedule in
     let found : Work_written st.world.rows st.world.writes (last_database st.world.history) (writes_in (session_at st i).transaction) work =
-        of_work st.world.rows st.world.writes (last_database st.world.history) (session_at st i).transaction work (all.own i) c in
+    of_work st.world.rows st.world.writes (last_database st.world.history) (session_at st i).transaction work (all.own i) c in
     let holds : Holds row (writer_mode one.image) work.holdings = found.written.guarded row one stored is there in
     record { mode = holds.held; stands = holds.stands; enough = least-writer one.image holds.held holds.enough }

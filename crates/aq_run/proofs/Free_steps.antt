@@ -1,5 +1,5 @@
 -- Every row that a step changes or locks is in nobody's way.
-use Rattle.std.proofs.Common.{◌≡◌, refl, sym, subst, ℕ, Bool, true, false, List, [], ◌∷◌, ◌++◌, Option, Some, None, map}
+use Rattle.std.proofs.Common.{◌≡◌, refl, ℕ, Bool, true, false, List, [], ◌∷◌, ◌++◌, Option, Some, None, map}
 use Rattle.std.specs.Prelude.{◌+◌, ◌-◌, zero, suc, length, nat_le, nat_lt, codes}
 use Rattle.aq_base.specs.Names.{Text}
 use Rattle.aq_base.specs.Limits.{saved_limit, level_limit, step_limit}

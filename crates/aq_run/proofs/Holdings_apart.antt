@@ -23,7 +23,7 @@ use Rattle.aq_run.specs.Effects.Effect.{Counts_step, Turns, Starts_waiting, Begi
 use Rattle.aq_outcomes.specs.Rows.{Change}
 use Rattle.aq_base.specs.Values.{Row}
 use Rattle.aq_base.specs.Writes.{Writes}
-use Rattle.aq_run.proofs.Free_rows.{Fits_parts, Changes_row}
+use Rattle.aq_run.proofs.Free_rows.{Fits_parts}
 use Rattle.aq_run.proofs.Free_plans.{Is_allowed, Each}
 use Rattle.aq_run.proofs.Free_steps.{writes_in, Kind_of_step, kind_of_step}
 use Rattle.aq_run.proofs.Free_steps.Kind_of_step.{Changing_a_row, Without_a_change, Waiting}

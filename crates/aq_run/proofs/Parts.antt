@@ -1,10 +1,10 @@
 -- What an effect does to what a transaction has written and holds and to its saved copies: a fact of these is kept by every effect where it is
 -- kept by the few that touch them.
-use Rattle.std.proofs.Common.{◌≡◌, ℕ, List, [], ◌∷◌, Option, Some, None, refl, subst, sym}
-use Rattle.std.specs.Prelude.{length, drop, ◌-◌, ◌+◌, option_map, unwrap_or}
-use Rattle.aq_base.specs.Maps.{at, with_at}
-use Rattle.aq_base.specs.Databases.{Database, last_number, last_database}
-use Rattle.aq_base.specs.Writes.{Write, Writes}
+use Rattle.std.proofs.Common.{◌≡◌, ℕ, List, [], ◌∷◌, Option, Some, None, refl, subst}
+use Rattle.std.specs.Prelude.{length, drop, ◌-◌, ◌+◌, option_map}
+use Rattle.aq_base.specs.Maps.{with_at}
+use Rattle.aq_base.specs.Databases.{last_number}
+use Rattle.aq_base.specs.Writes.{Writes}
 use Rattle.aq_base.specs.LockModes.{Holdings, locked}
 use Rattle.aq_base.specs.ConstraintModes.{with_modes}
 use Rattle.aq_base.specs.Transitions.{closed}
@@ -16,7 +16,7 @@ use Rattle.aq_base.specs.declared.data.LockMode.{LockMode}
 use Rattle.aq_outcomes.specs.Rows.{Change}
 use Rattle.aq_run.specs.Programs.{Program}
 use Rattle.aq_run.specs.States.{Transaction, Session, World}
-use Rattle.aq_run.specs.Effects.{Effect, Scene, effect, on_session, on_world, with_lock, with_lock_in, with_set, opening_of, left_after, latest_saved, copied_work, standing_saved, returned, saving, changed, queued, row_of, rows_drawn, version_of, taking_round}
+use Rattle.aq_run.specs.Effects.{Effect, on_session, with_lock, with_lock_in, with_set, opening_of, left_after, latest_saved, copied_work, standing_saved, returned, saving, changed, queued, row_of, version_of, taking_round}
 use Rattle.aq_run.specs.Effects.Effect.{Counts_step, Begins, Fixes_snapshot, Opens, Closes_level, Closes_rounds, Takes_round, Locks, Changes, Queues, Closes_set, Finishes, Sets_mode, Saves, Releases, Returns, Commits, Aborts}
 
 -- of what a transaction has written and holds, and of its copies

@@ -1,8 +1,8 @@
 -- Graphs along whose edges a rank falls: they have no cycle, and stay so when edges are added that close none.
-use Rattle.std.proofs.Common.{◌≡◌, ◌≢◌, ℕ, ◌≤◌, ◌<◌, Bool, true, false, arith, List, [], ◌∷◌, Option, Some, None, refl, sym, ap, ◌∙◌, subst, ⊎_elim, ◌⊎◌, inl, inr, eqb-true, Contains}
-use Rattle.std.specs.Prelude.{◌+◌, ◌-◌, ◌==◌, ◌||◌, zero, suc, length, filter, find, map, is_some, nat_lt, if◌then◌else◌}
-use Rattle.std.specs.List.{list_any, enumerate_from}
-use Rattle.std.proofs.lemmas.Bool.{true≢false, cases_eq, eq-eqb, or_cases}
+use Rattle.std.proofs.Common.{◌≡◌, ℕ, ◌≤◌, ◌<◌, Bool, true, false, arith, List, [], ◌∷◌, Option, Some, None, refl, sym, ap, ◌∙◌, subst, ⊎_elim, ◌⊎◌, inl, inr, eqb-true, Contains}
+use Rattle.std.specs.Prelude.{◌+◌, ◌-◌, ◌==◌, ◌||◌, zero, suc, length, filter, find, is_some, nat_lt, if◌then◌else◌}
+use Rattle.std.specs.List.{list_any}
+use Rattle.std.proofs.lemmas.Bool.{true≢false, eq-eqb, or_cases}
 use Rattle.std.proofs.lemmas.Bool.Decides.{nat_tests}
 use Rattle.std.proofs.lemmas.Option.{none-some}
 use Rattle.aq_base.proofs.Lists.{Contains-none, Contains-cons_cases}

@@ -1,12 +1,11 @@
 -- A database with what a transaction has written.
 use Rattle.std.proofs.Common.{◌≡◌, ℕ, ◌⊎◌, inl, inr, ◌≢◌, [], ◌∷◌, Option, Some, None, refl, sym, ◌∙◌, ap}
 use Rattle.std.proofs.lemmas.Bool.{cases_eq}
-use Rattle.std.proofs.lemmas.Option.{none-some, same_Some}
 use Rattle.aq_base.specs.Values.{Row}
-use Rattle.aq_base.specs.Maps.{at, with_at}
+use Rattle.aq_base.specs.Maps.{at}
 use Rattle.aq_base.specs.Databases.{Database, Stored}
 use Rattle.aq_base.specs.Writes.{Write, Writes, with_image, overlay}
-use Rattle.aq_base.proofs.Maps.{KeysRise, Adds, Removes, at-first, at-rest, at-first_alone, at-with_at_same, at-with_at_other, KeysRise-rest, KeysRise-with_at, KeysRise-without, Removes-without}
+use Rattle.aq_base.proofs.Maps.{KeysRise, at-first, at-rest, at-first_alone, at-with_at_same, at-with_at_other, KeysRise-rest, KeysRise-with_at, KeysRise-without, Removes-without}
 
 -- a version as the commit with that number stores it; none where the row is deleted
 abbrev pub stored_by : ℕ → ℕ → Option Row → Option Stored

@@ -1,30 +1,29 @@
 -- In every state of every run the sessions can be ranked so that each waits only for sessions of a lower rank; and one of those that have not ended is enabled.
-use Rattle.std.proofs.Common.{◌≡◌, ◌≢◌, ℕ, ◌≤◌, ◌<◌, Bool, true, false, arith, List, [], ◌∷◌, ◌++◌, Option, Some, None, refl, sym, ap, ◌∙◌, subst, ⊎_elim, ◌⊎◌, inl, inr, Contains, length-set, get_or-set_same}
-use Rattle.std.specs.Prelude.{◌+◌, ◌-◌, ◌==◌, ◌&&◌, not, zero, suc, length, map, slice_index_or, slice_set, slice_get, nat_lt}
-use Rattle.std.specs.List.{list_any, enumerate_from}
+use Rattle.std.proofs.Common.{◌≡◌, ◌≢◌, ℕ, ◌<◌, Bool, true, false, arith, List, [], ◌∷◌, ◌++◌, Option, Some, None, refl, sym, ap, ◌∙◌, subst, ⊎_elim, ◌⊎◌, length-set, get_or-set_same}
+use Rattle.std.specs.Prelude.{◌+◌, ◌==◌, ◌&&◌, not, zero, suc, length, map, slice_index_or, slice_set, slice_get, nat_lt}
+use Rattle.std.specs.List.{enumerate_from}
 use Rattle.std.proofs.lemmas.Bool.{true≢false, cases_eq, eq-eqb, ne_eqb}
 use Rattle.std.proofs.lemmas.Bool.Decides.{nat_tests}
-use Rattle.std.proofs.lemmas.Option.{same_Some, none-some}
 use Rattle.aq_base.specs.Names.{Text}
 use Rattle.aq_base.specs.Maps.{at}
 use Rattle.aq_base.proofs.Lists.{Contains-none, Contains-cons_cases}
 use Rattle.aq_base.proofs.Maps.{KeysRise}
 use Rattle.aq_base.specs.Databases.{Database, last_database}
-use Rattle.aq_base.specs.Writes.{Write, Writes}
+use Rattle.aq_base.specs.Writes.{Writes}
 use Rattle.aq_base.specs.LockModes.{conflicts_with}
 use Rattle.aq_base.specs.Blockers.{Ask}
 use Rattle.aq_base.specs.Blockers.Ask.{For_row, For_key}
 use Rattle.aq_base.specs.Works.{Saved}
 use Rattle.aq_base.specs.declared.catalog.UniqueKey.{UniqueKey}
 use Rattle.aq_run.specs.Programs.{Program}
-use Rattle.aq_run.specs.States.{Task, Transaction, Session, World, State, at_start, nobody, opening, session_at, around, held_by, written_by}
+use Rattle.aq_run.specs.States.{Transaction, Session, World, State, at_start, nobody, opening, session_at, around}
 use Rattle.aq_run.specs.Waits.{blockers, blockers_of, waits_for, numbers, is_empty, is_enabled, closes}
 use Rattle.aq_run.specs.Effects.{Effect, Scene, effect, effects, on_session}
 use Rattle.aq_run.specs.Effects.Effect.{Resumes, Changes, Turns, Starts_waiting}
 use Rattle.aq_run.specs.Steps.{step, effects_of, scene_of, count_effects, is_counted_with}
 use Rattle.aq_run.specs.Runs.{Schedule, run_from, CanRunFrom, IsSchedule, run}
 use Rattle.aq_run.proofs.Parts.{Of_transaction}
-use Rattle.aq_run.proofs.Written.{Written, Rewritten, Within, Within-trans, Copies_written, Rows_written}
+use Rattle.aq_run.proofs.Written.{Rewritten, Copies_written, Rows_written}
 use Rattle.aq_run.proofs.Written_apart.{Untouched, All_written, session-cases, step-written, opening-written, untouched_by_step}
 use Rattle.aq_run.proofs.Free_plans.{Is_allowed, Each}
 use Rattle.aq_run.proofs.Free_steps.{writes_in, Kind_of_step, kind_of_step}
@@ -224,7 +223,7 @@ module _ (program : Program) (st : State) (s : ℕ) (all : All_written st) (with
   same-waited i asked k edge =
       let found = waited-from program after i asked k edge in
       let there : is_waited_for program (last_database st.world.history) asked (session_at after k) ≡ true =
-          subst (λ history. is_waited_for program (last_database history) asked (session_at after k) ≡ true) history-is found.1.1 in
+      subst (λ history. is_waited_for program (last_database history) asked (session_at after k) ≡ true) history-is found.1.1 in
       waited-to program st i asked k (subst (λ n. k < n) (same-many program st s all within ordered) found.0) found.1.0
       (sym (waited-transaction program (last_database st.world.history) asked (session_at after k) (session_at st k) (same-transaction k)) ∙ there)
 

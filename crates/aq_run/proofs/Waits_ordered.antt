@@ -1,24 +1,24 @@
 -- The sessions that wait never form a cycle.
-use Rattle.std.proofs.Common.{◌≡◌, ◌≢◌, ℕ, ◌≤◌, ◌<◌, Bool, true, false, arith, List, [], ◌∷◌, ◌++◌, Option, Some, None, refl, sym, ap, ◌∙◌, subst, ⊎_elim, ◌⊎◌, inl, inr, eqb-true, Contains}
-use Rattle.std.specs.Prelude.{◌+◌, ◌-◌, ◌==◌, ◌||◌, ◌&&◌, not, zero, suc, length, map, slice_index_or, slice_set, slice_get, if◌then◌else◌}
+use Rattle.std.proofs.Common.{◌≡◌, ◌≢◌, ℕ, ◌≤◌, ◌<◌, Bool, true, false, arith, List, [], ◌∷◌, Option, Some, None, refl, sym, ap, ◌∙◌, subst, ⊎_elim, ◌⊎◌, inl, inr, eqb-true, Contains}
+use Rattle.std.specs.Prelude.{◌+◌, ◌==◌, ◌||◌, ◌&&◌, not, zero, suc, length, map, slice_index_or, slice_get}
 use Rattle.std.specs.List.{list_any, enumerate_from}
 use Rattle.std.proofs.lemmas.Bool.{true≢false, cases_eq, eq-eqb, ne_eqb, or_cases}
-use Rattle.std.proofs.lemmas.Option.{same_Some, none-some}
+use Rattle.std.proofs.lemmas.Option.{none-some}
 use Rattle.aq_base.specs.Values.{Row}
 use Rattle.aq_base.specs.Maps.{at}
-use Rattle.aq_base.specs.Databases.{Database, Stored, History, last_database}
+use Rattle.aq_base.specs.Databases.{Database, last_database}
 use Rattle.aq_base.specs.Writes.{Write, Writes}
-use Rattle.aq_base.specs.LockModes.{Holdings, conflicts_with}
+use Rattle.aq_base.specs.LockModes.{conflicts_with}
 use Rattle.aq_base.specs.declared.catalog.UniqueKey.{UniqueKey}
-use Rattle.aq_base.specs.Blockers.{Ask, is_apart, image_has_key, stored_has_key, others_from, with_number, touches_key, row_blockers, key_blockers}
+use Rattle.aq_base.specs.Blockers.{Ask, is_apart, image_has_key, stored_has_key, others_from, with_number, touches_key}
 use Rattle.aq_base.specs.Blockers.Ask.{For_row, For_key}
-use Rattle.aq_outcomes.specs.Parties.{ask_blockers, key_ask_blockers}
+use Rattle.aq_outcomes.specs.Parties.{key_ask_blockers}
 use Rattle.aq_run.specs.Programs.{Program}
 use Rattle.aq_run.specs.States.{Session, State, nobody, session_at, around, held_by, written_by}
-use Rattle.aq_run.specs.Waits.{blockers, blockers_of, waits_for, numbers}
-use Rattle.aq_base.proofs.Lists.{Contains-none, Contains-first, Contains-later, Contains-cons_cases}
+use Rattle.aq_run.specs.Waits.{blockers_of, numbers}
+use Rattle.aq_base.proofs.Lists.{Contains-first, Contains-later}
 use Rattle.aq_base.proofs.Maps.{KeysRise, at-Contains}
-use Rattle.aq_run.proofs.Ranks.{IsIn, Falls, in-first, in-later, in-none, in-cases}
+use Rattle.aq_run.proofs.Ranks.{IsIn, in-first, in-later, in-none}
 
 -- ---- who is among the blockers
 
@@ -121,9 +121,10 @@ module _ (program : Program) (st : State) (i : ℕ) where
   in_way-from : {A : Type 0} (f : Session → A) (test : A → Bool) (k : ℕ) → Is_found 0 i test (map f st.sessions) (f nobody) k → (k < length st.sessions) × ((k ≢ i) × (test (f (session_at st k)) ≡ true))
   in_way-from f test k found =
       let same : found.place ≡ k = let e = found.is in omega (arith, e) in
-      let low : found.place < length st.sessions = subst (λ n. found.place < n) (map-length f st.sessions) found.within in
-      (subst (λ n. n < length st.sessions) same low,
-      (found.other, ap (λ j. test (f (session_at st j))) (sym same) ∙ ap test (sym (map-entry f st.sessions found.place)) ∙ found.passes))
+      let low : found.place < length st.sessions = subst (λ n. found.place < n) (map-length f st.sessions) found.within in (
+        subst (λ n. n < length st.sessions) same low,
+        (found.other, ap (λ j. test (f (session_at st j))) (sym same) ∙ ap test (sym (map-entry f st.sessions found.place)) ∙ found.passes),
+      )
 
   in_way-to : {A : Type 0} (f : Session → A) (test : A → Bool) (k : ℕ) → k < length st.sessions → k ≢ i → test (f (session_at st k)) ≡ true → IsIn (others_from 0 i test (map f st.sessions)) k
   in_way-to f test k low other passes =

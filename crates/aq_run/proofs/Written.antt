@@ -10,12 +10,12 @@ use Rattle.aq_base.specs.Maps.{at, with_at}
 use Rattle.aq_base.proofs.Maps.{KeysRise, KeysRise-with_at, at-with_at_same, at-with_at_other}
 use Rattle.aq_base.specs.Databases.{Database, Stored}
 use Rattle.aq_base.specs.Writes.{Write, Writes}
-use Rattle.aq_base.specs.LockModes.{Holdings, strength, stronger, beside, locked}
+use Rattle.aq_base.specs.LockModes.{Holdings, strength, beside, locked}
 use Rattle.aq_base.specs.Works.{Saved}
 use Rattle.aq_base.specs.declared.data.LockMode.{LockMode}
 use Rattle.aq_base.specs.declared.data.LockMode.TheVariants.{Update, NoKeyUpdate}
 use Rattle.aq_run.proofs.Parts.{Fact, Goes_with_copies, locked_in}
-use Rattle.aq_run.proofs.Copies_fit.{is_at_most, Holds, Fits, at_most-self, at_most-stronger, at_most-trans, Fits-self, Fits-locked}
+use Rattle.aq_run.proofs.Copies_fit.{is_at_most, Holds, Fits, at_most-self, at_most-trans, Fits-self, Fits-locked}
 
 -- the weakest mode in which a row may be held that is changed, or deleted
 abbrev pub writer_mode : Option Row → LockMode

@@ -1,38 +1,37 @@
 -- No two sessions have written one row, and each holds in a writer's mode what it has written and the last database has: in every state of every run.
 use Rattle.std.proofs.Common.{◌≡◌, ◌≢◌, ℕ, ◌≤◌, Bool, true, false, arith, List, [], ◌∷◌, ◌++◌, Option, Some, None, refl, sym, ap, ◌∙◌, subst, ⊎_elim, ◌⊎◌, inl, inr, append-nil, length-append}
-use Rattle.std.specs.Prelude.{slice_index_or, slice_set, map, nat_le, length, ◌-◌, ◌+◌, zero, suc, unwrap_or, is_some}
+use Rattle.std.specs.Prelude.{slice_index_or, slice_set, map, length, ◌-◌, ◌+◌, zero, suc, unwrap_or}
 use Rattle.std.proofs.lemmas.Bool.{true≢false}
 use Rattle.std.proofs.lemmas.Bool.Decides.{nat_tests}
-use Rattle.std.proofs.lemmas.Option.{same_Some, none-some}
+use Rattle.std.proofs.lemmas.Option.{none-some}
 use Rattle.aq_base.specs.Values.{Row}
 use Rattle.aq_base.specs.Names.{Text}
 use Rattle.aq_base.specs.Maps.{at, with_at}
 use Rattle.aq_base.proofs.Maps.{KeysRise}
 use Rattle.aq_base.specs.Databases.{Database, Stored, History, last_number, last_database}
 use Rattle.aq_base.specs.Writes.{Write, Writes, overlay, latest_view}
-use Rattle.aq_base.specs.LockModes.{Holdings, strength, conflict, conflicts_with}
+use Rattle.aq_base.specs.LockModes.{Holdings, conflict, conflicts_with}
 use Rattle.aq_base.specs.Works.{Saved}
 use Rattle.aq_base.specs.declared.data.LockMode.{LockMode}
-use Rattle.aq_base.specs.declared.data.LockMode.TheVariants.{Update, NoKeyUpdate}
+use Rattle.aq_base.specs.declared.data.LockMode.TheVariants.{NoKeyUpdate}
 use Rattle.aq_outcomes.specs.Rows.{Change, mode_for, changed_keys}
 use Rattle.aq_run.specs.Programs.{Program}
 use Rattle.aq_run.specs.States.{Task, Transaction, Session, World, State, at_start, nobody, opening, session_at, around, held_by}
-use Rattle.aq_run.specs.Effects.{Effect, Scene, effect, effects, on_session, row_of, rows_drawn, committed}
-use Rattle.aq_run.specs.Effects.Effect.{Resumes, Starts_waiting, Counts_step, Locks, Changes, Turns, Commits}
-use Rattle.aq_run.specs.Steps.{step, effects_of, scene_of, counting, count_effects, is_counted_with}
+use Rattle.aq_run.specs.Effects.{Effect, Scene, effect, effects, committed}
+use Rattle.aq_run.specs.Effects.Effect.{Resumes, Starts_waiting, Locks, Changes, Turns, Commits}
+use Rattle.aq_run.specs.Steps.{step, effects_of, scene_of, count_effects, is_counted_with}
 use Rattle.aq_run.specs.Runs.{Schedule, run_from, run}
 use Rattle.aq_setup.specs.Catalogs.{Catalog}
 use Rattle.aq_outcomes.specs.Parties.{Around}
-use Rattle.aq_run.proofs.Effected.{effects-append}
-use Rattle.aq_run.proofs.Views.{newest, stored_by, KeysRise-overlay, at-overlay, at-unwritten, at-written}
-use Rattle.aq_run.proofs.Parts.{Fact, Of_transaction, Goes_with_copies, Goes_over, locked_in, on_session-over}
-use Rattle.aq_run.proofs.Copies_fit.{is_at_most, Holds, Fits, at_most-self, each-set}
+use Rattle.aq_run.proofs.Views.{KeysRise-overlay, at-unwritten}
+use Rattle.aq_run.proofs.Parts.{Fact, Of_transaction, Goes_with_copies, locked_in, on_session-over}
+use Rattle.aq_run.proofs.Copies_fit.{is_at_most, Holds}
 use Rattle.aq_run.proofs.Written.{writer_mode, Rows_written-locked, Written, Rewritten, Within, Copies_written, Rows_written, Rows_written-copies, Rows_written-grow, Rows_written-put, Holds-locked, put-cases}
-use Rattle.aq_run.proofs.Free_rows.{Fits_parts, Change_fits, Changes_row, New_fits}
+use Rattle.aq_run.proofs.Free_rows.{Fits_parts, Changes_row, New_fits}
 use Rattle.aq_run.proofs.Free_plans.{Is_allowed, Each}
 use Rattle.aq_run.proofs.Free_steps.{writes_in, Kind_of_step, kind_of_step}
 use Rattle.aq_run.proofs.Free_steps.Kind_of_step.{Changing_a_row, Without_a_change, Waiting}
-use Rattle.aq_run.proofs.Holdings_apart.{set-cases, row-free}
+use Rattle.aq_run.proofs.Holdings_apart.{row-free}
 
 -- ---- the last database
 
