@@ -151,11 +151,11 @@ with_round kind below (event ∷ events) deferred duty =
 abbrev pub taking : Catalog → Duty → List Part → Option Duty
 taking cat duty (Rounds kind queued [] ∷ below) =
     with_round
-      kind
-      below
-      (taken (is_immediate cat duty.modes) kind duty.deferred queued)
-      (still_deferred (is_immediate cat duty.modes) kind duty.deferred queued)
-      duty
+    kind
+    below
+    (taken (is_immediate cat duty.modes) kind duty.deferred queued)
+    (still_deferred (is_immediate cat duty.modes) kind duty.deferred queued)
+    duty
 taking cat duty stack = None
 
 -- the first event of the round is due
