@@ -26,3 +26,4 @@ pub mod Finite
 pub mod Progress
 pub mod Refusals
 pub mod Traced_runs
+pub mod Judged

@@ -21,7 +21,7 @@ use Rattle.aq_run.specs.Runs.{Schedule, run_from, run, CanRunFrom, IsSchedule, h
 use Rattle.aq_run.specs.Measure.{Measure, measure, Falls}
 use Rattle.aq_run.proofs.Effected.{run_from-append}
 use Rattle.aq_laws.specs.Stacks.{ActionsAreForRows, End_fits, SessionFits}
-use Rattle.aq_laws.specs.Waits.{IsRanked, WaitsAreRanked}
+use Rattle.aq_laws.specs.Waits.{IsRanked}
 use Rattle.aq_laws.specs.Progress.{CanGoOn, SomebodyMayStep, DefaultScheduleExists}
 use Rattle.aq_laws.proofs.Ranked.{ranked}
 use Rattle.aq_laws.specs.Progress.CanGoOn.{All_ended, May_step}

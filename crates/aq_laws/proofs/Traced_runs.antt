@@ -1,7 +1,6 @@
 -- What the traces of whole runs tell, computed on the definitions: the databases of the run, and the events that had to fire.
-use Rattle.std.proofs.Common.{◌≡◌, List, [], ◌∷◌, Option, Some, None, refl, sym, ◌∙◌}
+use Rattle.std.proofs.Common.{◌≡◌, List, [], ◌∷◌, Option, Some, refl, sym, ◌∙◌}
 use Rattle.std.specs.Prelude.{ℕ, map, drop, replicate, pos}
-use Rattle.aq_base.specs.Values.{Row}
 use Rattle.aq_base.specs.Databases.{Stored, History}
 use Rattle.aq_base.specs.declared.value.Value.TheVariants as values
 use Rattle.aq_outcomes.specs.Rows.{row_step, insert_step}

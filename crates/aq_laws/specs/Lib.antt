@@ -14,3 +14,4 @@ pub mod Firing
 pub mod Returns
 pub mod Replies
 pub mod Alone
+pub mod Judged

@@ -1,6 +1,7 @@
 //! Laws over every run, whatever its schedule. Each is the contract of a function that does nothing.
 #![tactic(auto)]
 
+ghost use Rattle.aq_laws.specs.Judged.{BlocksAreJudged};
 ghost use Rattle.aq_laws.specs.Locks.{HoldingsAreApart};
 ghost use Rattle.aq_laws.specs.Writes.{WritesAreApart, WrittenRowsAreHeld};
 ghost use Rattle.aq_laws.specs.Waits.{WaitsAreRanked, NoWaitIsCircular};
@@ -11,6 +12,11 @@ ghost use Rattle.aq_laws.specs.Stacks.{StacksFit};
 ghost use Rattle.aq_laws.specs.Finite.{EveryStepFalls, RunsAreFinite};
 ghost use Rattle.aq_laws.specs.Progress.{SomebodyMayStep, DefaultScheduleExists};
 ghost use Rattle.aq_laws.specs.Refusals.{RefusalsHaveCauses};
+
+/// The plan with which a statement starts does what the table of block states says of it.
+pub fn blocks_are_judged()
+    ensures { BlocksAreJudged }
+{}
 
 /// At each moment of each run, no two sessions hold a row in modes that conflict.
 pub fn holdings_are_apart()
