@@ -9,3 +9,4 @@ pub mod Returns
 pub mod Waiting
 pub mod Endings
 pub mod Alone
+pub mod Judged

@@ -5,6 +5,7 @@ ghost use Rattle.aq_laws.specs.Locks.{HoldingsAreApart};
 ghost use Rattle.aq_laws.specs.Commits.{CommitsAreNumbered};
 ghost use Rattle.aq_laws.specs.Told.{ScheduleIsTold, TextTellsSchedule};
 ghost use Rattle.aq_laws.specs.Default.{DefaultScheduleIsUnique};
+ghost use Rattle.aq_laws.specs.Judged.{BlocksAreJudged};
 
 /// At each moment of each run, no two sessions hold a row in modes that conflict.
 pub fn holdings_are_apart()
@@ -29,4 +30,9 @@ pub fn schedule_is_told()
 /// The text of a run tells the run's schedule and no other, with its trace and without, however many sessions there are.
 pub fn text_tells_schedule()
     ensures { TextTellsSchedule }
+{}
+
+/// A statement starts with the plan that the table of block states says: it is refused, or warns, with that code, or runs.
+pub fn blocks_are_judged()
+    ensures { BlocksAreJudged }
 {}
