@@ -2,6 +2,7 @@ pub mod formers
 pub mod Values
 pub mod Maps
 pub mod Names
+pub mod Joined
 pub mod Databases
 pub mod Writes
 pub mod LockModes

@@ -3,7 +3,8 @@
 ghost use Rattle.std.specs.Prelude.{◌≡◌, ◌++◌, map, codes, OnOk};
 ghost use Rattle.std.specs.List.{flat_map};
 ghost use Rattle.aq_texts.specs.Written.{name_text};
-ghost use Rattle.aq_texts.specs.Rows.{line, joined, row_text};
+ghost use Rattle.aq_base.specs.Joined.{joined};
+ghost use Rattle.aq_texts.specs.Rows.{line, row_text};
 ghost use Rattle.aq_first_run.specs.Texts.{table_text};
 
 use aq_base::{NoMemory, Row};

@@ -3,7 +3,7 @@ use Rattle.std.proofs.Common.{◌≡◌, List, [], ◌∷◌, ◌++◌, map, ref
 use Rattle.std.specs.Prelude.{codes}
 use Rattle.std.proofs.lemmas.List.{append-nil}
 use Rattle.aq_base.specs.Names.{Text}
-use Rattle.aq_texts.specs.Rows.{joined}
+use Rattle.aq_base.specs.Joined.{joined}
 use Rattle.aq_first_machine.specs.Behind.{behind}
 
 pub joined_cons : (text : Text) (texts : List Text) → joined (text ∷ texts) ≡ text ++ behind texts

@@ -1,7 +1,7 @@
 ghost use Rattle.std.specs.Prelude.{◌≡◌, ◌++◌, [], ◌∷◌, map, codes, string_bytes, OnOk, IfOk};
 ghost use Rattle.std.specs.Fmt.{signed_decimal, decimal};
 ghost use Rattle.aq_first_run.specs.Replies.{answer_lines, in_progress_warning, no_block_warning, detail_value, col_name, table_name, key_text, quoted, error_lines};
-ghost use Rattle.aq_texts.specs.Rows.{joined};
+ghost use Rattle.aq_base.specs.Joined.{joined};
 ghost use Rattle.aq_first_run.specs.Effects.{given};
 ghost use Rattle.aq_first_outcomes.specs.Faults.Fault.{In_failed_block};
 ghost use Rattle.aq_base.specs.declared.reply.ReplyLine.TheVariants.{Tag, Error, Detail};

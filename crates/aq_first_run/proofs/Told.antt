@@ -16,7 +16,8 @@ use Rattle.aq_first_run.specs.Steps.{effects_of, scene_of, step}
 use Rattle.aq_first_run.specs.Runs.{Schedule, CanRunFrom, IsSchedule}
 use Rattle.aq_first_run.specs.Texts.{given_text, replies_text, table_text, table_rows, tables_text, text_of}
 use Rattle.aq_texts.specs.Written.{name_text}
-use Rattle.aq_texts.specs.Rows.{line, joined, row_text}
+use Rattle.aq_base.specs.Joined.{joined}
+use Rattle.aq_texts.specs.Rows.{line, row_text}
 use Rattle.aq_texts.specs.Replies.{reply_text}
 use Rattle.aq_texts.specs.Schedules.{name_at, runs_of, run_item}
 use Rattle.aq_first_run.specs.Told.{is_lines, TellsSchedule, are_named, CanBeTold, ScheduleIsTold}

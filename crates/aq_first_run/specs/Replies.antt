@@ -8,7 +8,7 @@ use Rattle.aq_base.specs.declared.value.Value.{Value}
 use Rattle.aq_base.specs.declared.value.Value.TheVariants.{Null, Bool as Truth, Int, Text as Characters}
 use Rattle.aq_base.specs.declared.reply.ReplyLine.{ReplyLine}
 use Rattle.aq_base.specs.declared.reply.ReplyLine.TheVariants.{Tag, Warning, Error, Detail}
-use Rattle.aq_texts.specs.Rows.{joined}
+use Rattle.aq_base.specs.Joined.{joined}
 use Rattle.aq_first_outcomes.specs.Faults.{Fault}
 use Rattle.aq_first_outcomes.specs.Faults.Fault.{Duplicate, Null_value, Missing, Referenced, In_failed_block}
 use Rattle.aq_first_run.specs.States.{Answer}

@@ -7,7 +7,8 @@ use Rattle.aq_first_base.specs.Databases.{Database, rows_of}
 use Rattle.aq_first_base.specs.Setup.{Program}
 use Rattle.aq_first_base.specs.declared.catalog.Table.{Table}
 use Rattle.aq_texts.specs.Written.{name_text}
-use Rattle.aq_texts.specs.Rows.{line, joined, row_text}
+use Rattle.aq_base.specs.Joined.{joined}
+use Rattle.aq_texts.specs.Rows.{line, row_text}
 use Rattle.aq_texts.specs.Replies.{reply_line}
 use Rattle.aq_texts.specs.Schedules.{name_at, schedule_line}
 use Rattle.aq_first_run.specs.States.{Given, State, last_database}

@@ -4,3 +4,4 @@ pub mod Told_runs
 pub mod Told
 pub mod Default
 mod Traced_runs
+mod Printed

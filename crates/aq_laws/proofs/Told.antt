@@ -16,7 +16,8 @@ use Rattle.aq_run.specs.Steps.{effects_of, scene_of, step}
 use Rattle.aq_run.specs.Runs.{Schedule, CanRunFrom, IsSchedule, run}
 use Rattle.aq_run.specs.Texts.{given_text, replies_text, table_text, table_rows, tables_text, trace_text, text_of}
 use Rattle.aq_texts.specs.Written.{name_text}
-use Rattle.aq_texts.specs.Rows.{line, joined, row_text}
+use Rattle.aq_base.specs.Joined.{joined}
+use Rattle.aq_texts.specs.Rows.{line, row_text}
 use Rattle.aq_texts.specs.Replies.{reply_text}
 use Rattle.aq_texts.specs.Traces.{trace_session, trace_words, trace_line}
 use Rattle.aq_texts.specs.Schedules.{name_at, runs_of, run_item, schedule_line}

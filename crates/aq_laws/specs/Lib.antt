@@ -9,3 +9,5 @@ pub mod Returns
 pub mod Waiting
 pub mod Endings
 pub mod Alone
+pub mod Printed
+pub mod Steps

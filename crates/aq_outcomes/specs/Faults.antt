@@ -3,6 +3,7 @@
 use Rattle.std.specs.Prelude.{ℕ, true, false, List, [], ◌∷◌, ◌++◌, map, Some, None, codes}
 use Rattle.std.specs.Fmt.{decimal, signed_decimal}
 use Rattle.aq_base.specs.Names.{Text}
+use Rattle.aq_base.specs.Joined.{joined}
 use Rattle.aq_base.specs.Values.{Row}
 use Rattle.aq_base.specs.Limits.{change_limit, event_limit, step_limit, saved_limit, level_limit}
 use Rattle.aq_base.specs.declared.fault.SqlFault.{SqlFault}
@@ -23,12 +24,6 @@ with_detail text fault = record fault { detail = Some text }
 -- a name between quotes
 abbrev pub quoted : Text → Text
 quoted name = 34 ∷ (name ++ 34 ∷ [])
-
--- texts with `, ` between each two
-abbrev pub joined : List Text → Text
-joined [] = []
-joined (text ∷ []) = text
-joined (text ∷ next ∷ texts) = text ++ codes ", " ++ joined (next ∷ texts)
 
 -- a value as a detail shows it
 abbrev pub detail_value : Value → Text

@@ -2,7 +2,8 @@
 
 ghost use Rattle.std.specs.Prelude.{◌≡◌, ◌++◌, map, codes, IfOk, OnOk};
 ghost use Rattle.std.specs.List.{flat_map};
-ghost use Rattle.aq_texts.specs.Rows.{joined, value_text, row_text};
+ghost use Rattle.aq_base.specs.Joined.{joined};
+ghost use Rattle.aq_texts.specs.Rows.{value_text, row_text};
 
 use crate::names::push_quoted;
 use crate::numbers::push_integer;

@@ -16,3 +16,5 @@ pub mod Told_apart
 mod Schedules
 mod Printed
 mod Measured
+mod Limits_met
+mod Defaults

@@ -13,5 +13,6 @@ pub mod Bodies
 pub mod Errors
 pub mod Steps
 pub mod Runs
+pub mod Sections
 pub mod Measure
 pub mod Texts

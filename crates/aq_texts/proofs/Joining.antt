@@ -3,7 +3,7 @@ use Rattle.std.proofs.Common.{◌≡◌, ℕ, List, [], ◌∷◌, ◌++◌, ap,
 use Rattle.std.specs.Prelude.{codes, map}
 use Rattle.std.specs.List.{flat_map}
 use Rattle.std.proofs.lemmas.List.{append-nil}
-use Rattle.aq_texts.specs.Rows.{joined}
+use Rattle.aq_base.specs.Joined.{joined}
 
 abbrev pub behind_first : {X : Type 0} → (X → List ℕ) → X → List X → List ℕ
 behind_first f x xs = f x ++ flat_map (λ y. codes ", " ++ f y) xs

@@ -3,6 +3,7 @@ use Rattle.std.specs.Prelude.{true, false, List, [], ◌∷◌, ◌++◌, map, c
 use Rattle.std.specs.Fmt.{signed_decimal}
 use Rattle.aq_base.specs.Values.{Row}
 use Rattle.aq_base.specs.Names.{Text}
+use Rattle.aq_base.specs.Joined.{joined}
 use Rattle.aq_lex.specs.Tokens.{quoted}
 use Rattle.aq_base.specs.declared.value.Value.{Value}
 use Rattle.aq_base.specs.declared.value.Value.TheVariants.{Null, Bool as Truth, Int, Text as Characters}
@@ -10,12 +11,6 @@ use Rattle.aq_base.specs.declared.value.Value.TheVariants.{Null, Bool as Truth, 
 -- a text ended by LF
 abbrev pub line : Text → Text
 line text = text ++ 10 ∷ []
-
--- texts with `, ` between each two
-abbrev pub joined : List Text → Text
-joined [] = []
-joined (text ∷ []) = text
-joined (text ∷ next ∷ texts) = text ++ codes ", " ++ joined (next ∷ texts)
 
 abbrev pub value_text : Value → Text
 value_text Null = codes "null"
